@@ -1,0 +1,3 @@
+-- Laws that stand beside the definitions, and what the proofs of several functions use.
+pub mod Laws
+pub mod Products
