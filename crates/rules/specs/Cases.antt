@@ -77,7 +77,7 @@ fin p = node 19 0 (pos 0) p
 -- of a call's answer, of what was lent, and of the table
 pub data Claim : Type 0 where
   finished waiting : Claim
-  steps highest : ℕ → Claim
+  steps emitted highest outputs : ℕ → Claim
   wrote : ℕ → ℤ → Claim  -- one output: name, value
   variable : ℕ → ℤ → Claim
   marks : List ℕ → Claim
@@ -105,8 +105,8 @@ cases =
     -- 5
     runs (loop (await 1 then output 1 0)) (steps 3 ∷ announcedSteps 46 ∷ announcedOutputs 2 ∷ []) (event 1 (pos 0) (steps 6 ∷ []) ∷ []) ∷
     -- 6, with what the runner prints of it
-    runs (fin (output 2 0) or await 1) (steps 5 ∷ highest 1 ∷ waiting ∷ marks (0 ∷ 1 ∷ 0 ∷ 1 ∷ []) ∷ [])
-    (event 1 (pos 40) (steps 4 ∷ highest 1 ∷ finished ∷ wrote 2 (pos 40) ∷ []) ∷ []) ∷
+    runs (fin (output 2 0) or await 1) (steps 5 ∷ emitted 0 ∷ highest 1 ∷ outputs 0 ∷ waiting ∷ marks (0 ∷ 1 ∷ 0 ∷ 1 ∷ []) ∷ [])
+    (event 1 (pos 40) (steps 4 ∷ emitted 0 ∷ highest 1 ∷ outputs 1 ∷ finished ∷ wrote 2 (pos 40) ∷ []) ∷ []) ∷
     -- 7
     runs (every 1 (output 1 0)) [] (event 1 (pos 0) (steps 4 ∷ []) ∷ []) ∷
     -- 8
@@ -138,7 +138,9 @@ unfolding announced
 holds b l o finished = o .answer .finished
 holds b l o waiting = not (o .answer .finished)
 holds b l o (steps n) = eqb n (o .answer .steps)
+holds b l o (emitted n) = eqb n (o .answer .emitted)
 holds b l o (highest n) = eqb n (o .answer .highest)
+holds b l o (outputs n) = eqb n (o .answer .outputs)
 holds b l o (wrote v z) = eqb 1 (o .answer .outputs) && same (onto (v ∷ 0 ∷ 0 ∷ 0 ∷ bytes32 z) (l .room)) (o .lent .room)
 holds b l o (variable v z) = same (bytes32 z) (bytes32 (getD (o .lent .vars) v (pos 0)))
 holds b l o (marks m) = same m (o .lent .marks)
