@@ -1,0 +1,39 @@
+-- Theorems over the rules; docs/PROOF-MAP.md says how to read them.
+pub mod Logic
+pub mod Memory
+-- the rules as relations: determinism
+pub mod Relation
+pub mod Steps
+pub mod RunKeeps
+-- what a tree can still cost
+pub mod Program
+pub mod Measure
+pub mod StepLowers
+pub mod EventAdds
+pub mod ProgramCost
+pub mod Budget
+-- what is left of a program while it runs, and where a run stops
+pub mod Blocked
+pub mod Progress
+pub mod Residue
+pub mod Invariant
+-- marks and trees at rest
+pub mod Again
+pub mod Marks
+pub mod WrittenMarks
+pub mod Ready
+-- demand 3: on trees, on tables of bytes
+pub mod DemandOnTrees
+pub mod Stages
+pub mod Decode
+pub mod Walk
+pub mod Accepted
+pub mod DemandProof
+pub mod Demand
+pub mod Back
+-- calls and lists
+pub mod Calls
+pub mod Lists
+-- whole runs, on trees and on one entry for each record
+pub mod Big
+pub mod Follow
