@@ -16,6 +16,7 @@ use Rattle.rules.specs.Marks.{lengthStage, markRight, marksStages, misfits}
 use Rattle.theory.specs.Logic.{clash, both-left, both-right}
 use Rattle.theory.specs.Program.{Program, Good, loose, loopDepth}
 use Rattle.theory.specs.Decode.{Waiting, markable, tree-whole}
+use Rattle.theory.specs.Ranges.{Ranged, tree-ranged}
 use Rattle.theory.specs.Walk.{good-walk, closed-walk, walk-size, walk-emits, walk-deep, walk-outside, walk-inside}
 use Rattle.theory.specs.Again.{Placed}
 use Rattle.theory.specs.DemandOnTrees.{promised}
@@ -30,6 +31,7 @@ pub record Accepted (b : List ℕ) (a : Announced) : Type 0 where
   pub sized : spanOf (programOf b) ≡ recordsOf b
   pub placed : Placed 0 (programOf b)
   pub waiting : Waiting (markable b) (programOf b)
+  pub ranged : Ranged (programOf b)
   pub good : Good (programOf b)
   pub closed : T (loose (programOf b)) → ⊥
   pub depth : ℕ
@@ -75,6 +77,7 @@ accepts b a e =
       sized = w .made .sized ∙ eqb→eq (spanAt b 0) n (both-right (spanFits (rowAt b 0 .children) b n 0) (eqb (spanAt b 0) n) (right 0 filled));
       placed = w .made .placed;
       waiting = w .made .waiting;
+      ranged = tree-ranged b n right (λ i l. none-fails (inKindsTable b) 0 n (p3 .clean) i (omega arith) (omega arith)) n 0 filled (omega arith);
       good = g;
       closed = closed-walk nothingAround t refl h (record { misses = p4 .clean });
       depth = deepest (visitsOf b);

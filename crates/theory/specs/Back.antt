@@ -18,27 +18,11 @@ use Rattle.theory.specs.Logic.{both-left, both-right, or-cases, T→true
 use Rattle.theory.specs.Program.{Program, Calm, Good}
 use Rattle.theory.specs.Again.{Placed, member, member-here, member-left, member-right, In}
 use Rattle.theory.specs.Marks.{spots, kept, waitsO, waits-rest}
+use Rattle.theory.specs.Frame.{Lies, own, left, right, lies}
 use Rattle.theory.specs.WrittenMarks.{bit, written, written-length}
 use Rattle.theory.specs.Decode.{Waiting, markable}
 use Rattle.theory.specs.Stages.{next, unless-true, none-fails}
 use Rattle.theory.specs.Accepted.{accepts, fitting}
-
--- a place of a node with parts: its own, or in a part
-pub data Lies (k n m j : ℕ) : Type 0 where
-  own : j ≡ k → Lies k n m j
-  left : In (k + 1) n j → Lies k n m j
-  right : In (k + 1 + n) m j → Lies k n m j
-
-pub lies : (k n m j : ℕ) → In k (1 + (n + m)) j → Lies k n m j
-lies k n m j w = go (eqb j k) refl
-  where
-    far : (x : Bool) → ltb j (k + 1 + n) ≡ x → (j ≡ k → ⊥) → Lies k n m j
-    far true y d = left (record { above = omega (arith, w .above, d); below = ltb-true j (k + 1 + n) y })
-    far false y d = right (record { above = ltb-false j (k + 1 + n) y; below = omega (arith, w .below) })
-
-    go : (x : Bool) → eqb j k ≡ x → Lies k n m j
-    go true y = own (eqb-true j k y)
-    go false y = far (ltb j (k + 1 + n)) refl (eqb-false j k y)
 
 one : (k j : ℕ) → In k 1 j → j ≡ k
 one k j w = omega (arith, w .above, w .below)

@@ -17,11 +17,11 @@ use Rattle.theory.specs.Program.{Program}
 
 -- ---- a rule of the kinds table, at every kind
 
-abbrev AllK : (ℕ → Kind → Type 0) → List Kind → Type 0
+abbrev pub AllK : (ℕ → Kind → Type 0) → List Kind → Type 0
 AllK P [] = Unit {0}
 AllK P (r ∷ rs) = P 0 r × AllK (λ k. P (suc k)) rs
 
-at : (P : ℕ → Kind → Type 0) (d : Kind) → ((k : ℕ) → P k d) → (l : List Kind) → AllK P l → (k : ℕ) → P k (getD l k d)
+pub at : (P : ℕ → Kind → Type 0) (d : Kind) → ((k : ℕ) → P k d) → (l : List Kind) → AllK P l → (k : ℕ) → P k (getD l k d)
 at P d h [] a k = h k
 at P d h (r ∷ rs) a zero = a .0
 at P d h (r ∷ rs) a (suc k) = at (λ k. P (suc k)) d (λ k. h (suc k)) rs (a .1) k

@@ -26,6 +26,7 @@ pub mod Ready
 pub mod DemandOnTrees
 pub mod Stages
 pub mod Decode
+pub mod Ranges
 pub mod Walk
 pub mod Accepted
 pub mod DemandProof
@@ -34,6 +35,20 @@ pub mod Back
 -- calls and lists
 pub mod Calls
 pub mod Lists
--- whole runs, on trees and on one entry for each record
+-- whole runs, on trees
 pub mod Big
 pub mod Follow
+-- the same on the engine's state, one number for each record
+pub mod State
+pub mod Round
+pub mod Sound
+pub mod Frame
+pub mod Shows
+pub mod Sweep
+pub mod Exec
+pub mod Resume
+pub mod Wake
+pub mod Rests
+pub mod Turns
+pub mod OnStates
+pub mod AnyMemory
