@@ -1,0 +1,76 @@
+-- The announced numbers of a table that passes the stages: from the counts of its walk, and below 2^32.
+-- Assumes nothing.
+use mathlib.Core.Path.{_≡_, refl, sym, ap, subst, _∙_}
+use mathlib.Core.List.{List}
+use Prim.Native.Nat.{ℕ, _+_, _*_, _≤_, _<_}
+use native.Mathlib.Omega.{arith}
+use lib.ListN.{length}
+use Rattle.rules.specs.Limits.{mostEmitted, mostLevel, mostSteps, mostOutputs, announce, mostLoops, mostRecords}
+use Rattle.rules.specs.Limits as Rules
+use Rattle.rules.specs.Table.{programOf, recordsOf, spanAt}
+use Rattle.rules.specs.Check.{Around, nothingAround, walk, deepest, visitsOf, announced, numbers}
+use Rattle.rules.proofs.Products.{product-bound}
+use Rattle.theory.specs.Walk.{walk-size}
+use Rattle.table.specs.Places.{Place, treeOf}
+use Rattle.table.proofs.Places.{root-span}
+use Rattle.table.proofs.Trees.{tree-span, tree-program}
+use Rattle.acceptance.specs.Counts.{tallied, tallyOf, announcedOf}
+use Rattle.acceptance.specs.declared.counts.Tally.{Tally}
+use Rattle.acceptance.specs.declared.Announced as Code
+use Rattle.acceptance.proofs.Tallies.{Small, walk-small, small-by}
+
+-- the program is the tree at place 0
+pub whole-walk : (b : List ℕ) {a : Around} → a ≡ nothingAround → walk a (treeOf b 0) ≡ visitsOf b
+unfolding visitsOf programOf treeOf
+whole-walk b e = rw e
+
+whole-length : (b : List ℕ) → Place b 0 → length (visitsOf b) ≡ recordsOf b
+whole-length b p = rw (← whole-walk b {a = nothingAround} refl) (walk-size nothingAround (treeOf b 0) (tree-program b 0 p) ∙ (tree-span b 0 p ∙ root-span b p))
+
+-- ---- bounds
+
+pub record Counted (t : Tally) : Type 0 where
+  pub small : Small 256 t
+  pub deep : t .deepest ≤ 8
+
+pub counted : (b : List ℕ) → Place b 0 → recordsOf b ≤ mostRecords → deepest (visitsOf b) ≤ mostLoops → {a : Around} → a ≡ nothingAround → {t : Tally} → t ≡ tallyOf (walk a (treeOf b 0)) → Counted t
+unfolding tallyOf
+counted b p l d {a} e {t} q = record {
+  small = small-by q (walk-small b 0 p l a);
+  deep = omega (arith, ap (λ (t : Tally). t .deepest) q, ap deepest (whole-walk b e));
+}
+
+-- the products of the announced numbers, with at most 256 records and 8 loops
+module _ (t : Tally) (h : Counted t) where
+  emitted-most : mostEmitted (t .emits) (t .deepest) ≤ 2304
+  emitted-most = omega (arith, product-bound (t .emits) (t .deepest + 1) 256 9 (h .small .emits) (omega (arith, h .deep)))
+
+  pub emitted-fits : mostEmitted (t .emits) (t .deepest) < 4294967296
+  emitted-fits = omega (arith, emitted-most)
+
+  pub level-fits : mostLevel (mostEmitted (t .emits) (t .deepest)) < 4294967296
+  level-fits = omega (arith, emitted-most)
+
+  pub steps-fits : (n : ℕ) → n ≤ 256 → mostSteps n (t .deepest) (mostEmitted (t .emits) (t .deepest)) < 4294967296
+  steps-fits n l =
+      omega (arith, product-bound (5 * n) (t .deepest + 1) 1280 9 (omega arith) (omega (arith, h .deep)), product-bound (1 + mostEmitted (t .emits) (t .deepest)) (n + 2) 2305 258 (omega (arith, emitted-most)) (omega arith))
+
+  pub outputs-fits : mostOutputs (t .outside) (t .inside) (t .deepest) (mostEmitted (t .emits) (t .deepest)) < 4294967296
+  outputs-fits =
+      omega (arith, product-bound (t .outside) (t .deepest + 1) 256 9 (h .small .outside) (omega (arith, h .deep)), product-bound (t .inside) (1 + mostEmitted (t .emits) (t .deepest)) 256 2305 (h .small .inside) (omega (arith, emitted-most)))
+
+-- ---- the numbers
+
+abbrev ofTally : ℕ → Tally → Rules.Announced
+ofTally n t = announce n (t .emits) (t .deepest) (t .outside) (t .inside)
+
+same : {e h s o e′ h′ s′ o′ : ℕ} → e ≡ e′ → h ≡ h′ → s ≡ s′ → o ≡ o′ → _≡_ {A = Rules.Announced} (record { emitted = e; highest = h; steps = s; outputs = o }) (record { emitted = e′; highest = h′; steps = s′; outputs = o′ })
+same p q r s = rw (p, q, r, s)
+
+module _ (b : List ℕ) (p : Place b 0) {a : Around} (e : a ≡ nothingAround) {t : Tally} (q : t ≡ tallyOf (walk a (treeOf b 0))) where
+  from-walk : ofTally (recordsOf b) t ≡ announced b
+  unfolding announced tallyOf
+  from-walk = ap (ofTally (recordsOf b)) (q ∙ ap tallyOf (whole-walk b e)) ∙ rw (whole-length b p)
+
+  pub announces : {x y z w : ℕ} → x ≡ mostEmitted (t .emits) (t .deepest) → y ≡ mostLevel (mostEmitted (t .emits) (t .deepest)) → z ≡ mostSteps (recordsOf b) (t .deepest) (mostEmitted (t .emits) (t .deepest)) → w ≡ mostOutputs (t .outside) (t .inside) (t .deepest) (mostEmitted (t .emits) (t .deepest)) → _≡_ {A = Rules.Announced} (record { emitted = x; highest = y; steps = z; outputs = w }) (announced b)
+  announces f g h i = same f g h i ∙ from-walk

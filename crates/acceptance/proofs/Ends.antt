@@ -1,0 +1,144 @@
+-- May break and may end of the tree at a place, said of the table.
+-- Assumes nothing.
+use mathlib.Core.Path.{_≡_, refl, sym, ap, subst, _∙_}
+use mathlib.Core.Bool.{Bool, true, false, not, _&&_, _||_}
+use mathlib.Core.List.{List}
+use Prim.Native.Nat.{ℕ, zero, suc, _+_, _≤_, _<_}
+use native.Mathlib.Omega.{arith}
+use lib.Dec.{eqb, ltb, leb, ltb→lt, leb→le}
+use borrow.Author.Tests.{lt-ltb, le-ltb, eq-eqb, ne-eqb, ltb-true, ltb-false}
+use Rattle.rules.specs.Stages.{if_then_else_}
+use Rattle.rules.specs.Tree.{Tree, Act, Source, Par, assign, increase, copy, subtract, compare, divide, output, input, internal, and, or}
+use Rattle.rules.specs.Table.{kindAt, spanAt, secondAt}
+use Rattle.rules.specs.Check.{mayEnd, mayBreak}
+use Rattle.table.specs.Kinds.{childrenOf}
+use Rattle.table.specs.Places.{Place, treeOf, Node, aNop, anAct, anAwait, anEmit, aBreak, anIf, aSeq, aLoop, anEvery, aPar, aFin}
+use Rattle.theory.specs.Logic.{or-cases}
+use Rattle.table.proofs.Counting.{computed}
+use Rattle.table.proofs.Places.{children-most, over-19}
+use Rattle.table.proofs.Trees.{node-at}
+
+-- whether either is enough, or both are asked
+abbrev joined : Bool → Bool → Bool → Bool
+joined true x y = x || y
+joined false x y = x && y
+
+-- ---- may end
+
+-- by the kind: a leaf; a loop; an every or a fin; a construct of two children
+abbrev endsAt : ℕ → List ℕ → ℕ → Bool
+endsAt k b i =
+    if ltb k 12 then not (eqb k 8) && not (eqb k 11) else
+    (if eqb k 14 then mayBreak (treeOf b (i + 1)) else
+    (if eqb (childrenOf k) 1 then false else
+    joined (eqb k 12 || eqb k 18) (mayEnd (treeOf b (i + 1))) (mayEnd (treeOf b (secondAt b i)))))
+
+ends-at : (b : List ℕ) (i : ℕ) → Place b i → mayEnd (treeOf b i) ≡ endsAt (kindAt b i) b i
+unfolding mayEnd childrenOf
+ends-at b i p = go (node-at b i p)
+  where
+    go : {t : Tree} → Node b i t → mayEnd t ≡ endsAt (kindAt b i) b i
+    go (aNop e) = rw e
+    go (anAct assign e) = rw e
+    go (anAct increase e) = rw e
+    go (anAct copy e) = rw e
+    go (anAct subtract e) = rw e
+    go (anAct compare e) = rw e
+    go (anAct divide e) = rw e
+    go (anAct output e) = rw e
+    go (anAwait input e) = rw e
+    go (anAwait internal e) = rw e
+    go (anEmit e) = rw e
+    go (aBreak e) = rw e
+    go (anIf e) = rw e
+    go (aSeq e) = rw e
+    go (aLoop e) = rw e
+    go (anEvery input e) = rw e
+    go (anEvery internal e) = rw e
+    go (aPar and e) = rw e
+    go (aPar or e) = rw e
+    go (aFin e) = rw e
+
+-- ---- may break
+
+-- by the number of children: a break; none under a loop, an every or a fin; either side
+abbrev breaksBy : ℕ → ℕ → List ℕ → ℕ → Bool
+breaksBy zero k b i = eqb k 11
+breaksBy (suc zero) k b i = false
+breaksBy (suc (suc n)) k b i = mayBreak (treeOf b (i + 1)) || mayBreak (treeOf b (secondAt b i))
+
+breaks-by : (b : List ℕ) (i : ℕ) → Place b i → (n : ℕ) → childrenOf (kindAt b i) ≡ n → mayBreak (treeOf b i) ≡ breaksBy n (kindAt b i) b i
+unfolding mayBreak childrenOf
+breaks-by b i p n e = subst (λ n. mayBreak (treeOf b i) ≡ breaksBy n (kindAt b i) b i) e (go (node-at b i p))
+  where
+    go : {t : Tree} → Node b i t → mayBreak t ≡ breaksBy (childrenOf (kindAt b i)) (kindAt b i) b i
+    go (aNop e) = rw e
+    go (anAct assign e) = rw e
+    go (anAct increase e) = rw e
+    go (anAct copy e) = rw e
+    go (anAct subtract e) = rw e
+    go (anAct compare e) = rw e
+    go (anAct divide e) = rw e
+    go (anAct output e) = rw e
+    go (anAwait input e) = rw e
+    go (anAwait internal e) = rw e
+    go (anEmit e) = rw e
+    go (aBreak e) = rw e
+    go (anIf e) = rw e
+    go (aSeq e) = rw e
+    go (aLoop e) = rw e
+    go (anEvery input e) = rw e
+    go (anEvery internal e) = rw e
+    go (aPar and e) = rw e
+    go (aPar or e) = rw e
+    go (aFin e) = rw e
+
+module _ (b : List ℕ) (i : ℕ) (p : Place b i) where
+  pub breaks-leaf : childrenOf (kindAt b i) ≡ 0 → mayBreak (treeOf b i) ≡ eqb (kindAt b i) 11
+  breaks-leaf h = breaks-by b i p 0 h
+
+  pub breaks-one : childrenOf (kindAt b i) ≡ 1 → mayBreak (treeOf b i) ≡ false
+  breaks-one h = breaks-by b i p 1 h
+
+  pub breaks-two : 2 ≤ childrenOf (kindAt b i) → mayBreak (treeOf b i) ≡ (mayBreak (treeOf b (i + 1)) || mayBreak (treeOf b (secondAt b i)))
+  breaks-two h = breaks-by b i p 2 (omega (arith, children-most b i p))
+
+-- as the code finds it: k is the kind here
+module _ (b : List ℕ) (i : ℕ) (p : Place b i) {k : ℕ} (e : k ≡ kindAt b i) where
+  is-at : mayEnd (treeOf b i) ≡ endsAt k b i
+  is-at = rw e (ends-at b i p)
+
+  pub ends-leaf : k < 12 → mayEnd (treeOf b i) ≡ (not (eqb k 8) && not (eqb k 11))
+  ends-leaf h = rw (is-at, lt-ltb k 12 h)
+
+  module _ (h : 12 ≤ k) where
+    pub ends-loop : k ≡ 14 → mayEnd (treeOf b i) ≡ mayBreak (treeOf b (i + 1))
+    ends-loop l = rw (is-at, le-ltb k 12 h, eq-eqb k 14 l)
+
+    pub ends-never : (k ≡ 14 → ⊥) → childrenOf k ≡ 1 → mayEnd (treeOf b i) ≡ false
+    ends-never l c = rw (is-at, le-ltb k 12 h, ne-eqb k 14 l, c)
+
+    ends-two : (k ≡ 14 → ⊥) → (childrenOf k ≡ 1 → ⊥) → mayEnd (treeOf b i) ≡ joined (eqb k 12 || eqb k 18) (mayEnd (treeOf b (i + 1))) (mayEnd (treeOf b (secondAt b i)))
+    ends-two l c = rw (is-at, le-ltb k 12 h, ne-eqb k 14 l, ne-eqb (childrenOf k) 1 c)
+
+    module _ (l : k ≡ 14 → ⊥) (c : childrenOf k ≡ 1 → ⊥) {x : Bool} (q : x ≡ (eqb k 12 || eqb k 18)) where
+      pub ends-either : x ≡ true → mayEnd (treeOf b i) ≡ (mayEnd (treeOf b (i + 1)) || mayEnd (treeOf b (secondAt b i)))
+      ends-either y = rw (ends-two l c, ← q, y)
+
+      pub ends-both : x ≡ false → mayEnd (treeOf b i) ≡ (mayEnd (treeOf b (i + 1)) && mayEnd (treeOf b (secondAt b i)))
+      ends-both y = rw (ends-two l c, ← q, y)
+
+-- a kind from 12 on has children
+has-child : ℕ → Bool
+has-child k = ltb k 12 || leb 1 (childrenOf k)
+
+pub inner-kind : (k : ℕ) → 12 ≤ k → 1 ≤ childrenOf k
+unfolding has-child childrenOf
+inner-kind k h = go (ltb k 20) refl
+  where
+    go : (x : Bool) → ltb k 20 ≡ x → 1 ≤ childrenOf k
+    go true e = or-cases (ltb k 12) (leb 1 (childrenOf k)) (λ t. absurd (omega (arith, ltb→lt k 12 t))) (leb→le 1 (childrenOf k)) (computed has-child 20 tt k (ltb-true k 20 e))
+    go false e = omega (arith, over-19 k (ltb-false k 20 e))
+
+pub two-children : (b : List ℕ) (i : ℕ) → Place b i → {k : ℕ} → k ≡ kindAt b i → 12 ≤ k → (childrenOf k ≡ 1 → ⊥) → 2 ≤ childrenOf (kindAt b i)
+two-children b i p {k} e h n = rw (← e) (omega (arith, inner-kind k h))

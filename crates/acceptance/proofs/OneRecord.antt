@@ -1,0 +1,149 @@
+-- Stages 2 and 3 by the numbers that the code has: of children, of ranges; and the places from one on that fail.
+-- Assumes nothing.
+use mathlib.Core.Path.{_≡_, refl, sym, subst, _∙_}
+use mathlib.Core.Bool.{Bool, true, false, not, _&&_}
+use mathlib.Core.List.{List, [], _∷_}
+use Prim.Native.Nat.{ℕ, zero, suc, _+_, _-_, _≤_, _<_}
+use native.Mathlib.Omega.{arith}
+use lib.Dec.{eqb, ltb}
+use lib.IntN.{pos, negsuc}
+use lib.ListN.{getD, List·getD-eq-default}
+use borrow.Author.Tests.{ltb-false, not-true, not-false, eq-eqb, ne-eqb, le-leb, lt-leb, lt-ltb, le-ltb}
+use mir.Val.{toZ}
+use mir.Syntax.{w32}
+use Rattle.rules.specs.Stages.{if_then_else_, failing}
+use Rattle.rules.specs.Table.{Children, leaf, one, two, wrong, Range, nought, anything, upTo63, oneTo63, kinds, over19, kindAt, spanAt, secondAt, rowAt, recordsOf, spanFits, shapeRight, inRange, inKindsTable, nameAt, numberAt}
+use Rattle.table.specs.Kinds.{arity, childrenOf, rowOf}
+use Rattle.table.specs.Places.{bitsAt}
+use Rattle.table.proofs.Counting.{each}
+use Rattle.acceptance.specs.Places.{firstOf}
+use Rattle.acceptance.specs.Records.{rangeOf, nameRange, numberRange}
+use Rattle.acceptance.specs.declared.Found.{Found}
+use Rattle.acceptance.specs.declared.Found.the-variants.{At, Nothing}
+
+-- ---- the span, by the number of children
+abbrev fitsBy : ℕ → List ℕ → ℕ → ℕ → Bool
+fitsBy zero b n i = eqb (spanAt b i) 1
+fitsBy (suc zero) b n i = ltb (i + 1) n && eqb (spanAt b i) (1 + spanAt b (i + 1))
+fitsBy (suc (suc zero)) b n i = ltb (i + 1) n && ltb (secondAt b i) n && eqb (spanAt b i) (1 + spanAt b (i + 1) + spanAt b (secondAt b i))
+fitsBy (suc (suc (suc m))) b n i = false
+
+by-number : (s : Children) (b : List ℕ) (n i m : ℕ) → arity s ≡ m → spanFits s b n i ≡ fitsBy m b n i
+by-number leaf b n i m e = subst (λ m. spanFits leaf b n i ≡ fitsBy m b n i) e refl
+by-number one b n i m e = subst (λ m. spanFits one b n i ≡ fitsBy m b n i) e refl
+by-number two b n i m e = subst (λ m. spanFits two b n i ≡ fitsBy m b n i) e refl
+by-number wrong b n i m e = subst (λ m. spanFits wrong b n i ≡ fitsBy m b n i) e refl
+
+fits-by : (b : List ℕ) (i m : ℕ) → childrenOf (kindAt b i) ≡ m → spanFits (rowAt b i .children) b (recordsOf b) i ≡ fitsBy m b (recordsOf b) i
+unfolding childrenOf
+fits-by b i m e = by-number (rowAt b i .children) b (recordsOf b) i m e
+
+-- as the code finds it: s is the span here, f that of the next place
+module _ (b : List ℕ) (i : ℕ) {s : ℕ} (e : s ≡ spanAt b i) where
+  pub fits-leaf : childrenOf (kindAt b i) ≡ 0 → eqb s 1 ≡ spanFits (rowAt b i .children) b (recordsOf b) i
+  fits-leaf h = rw e (sym (fits-by b i 0 h))
+
+  pub fits-wrong : childrenOf (kindAt b i) ≡ 3 → false ≡ spanFits (rowAt b i .children) b (recordsOf b) i
+  fits-wrong h = sym (fits-by b i 3 h)
+
+  pub fits-short : 1 ≤ childrenOf (kindAt b i) → recordsOf b ≤ i + 1 → false ≡ spanFits (rowAt b i .children) b (recordsOf b) i
+  fits-short h l = sym (go (childrenOf (kindAt b i)) refl h)
+    where
+      go : (m : ℕ) → childrenOf (kindAt b i) ≡ m → 1 ≤ childrenOf (kindAt b i) → spanFits (rowAt b i .children) b (recordsOf b) i ≡ false
+      go zero q h = absurd (omega arith)
+      go (suc zero) q h = rw (fits-by b i 1 q, le-ltb (i + 1) (recordsOf b) l)
+      go (suc (suc zero)) q h = rw (fits-by b i 2 q, le-ltb (i + 1) (recordsOf b) l)
+      go (suc (suc (suc m))) q h = fits-by b i (suc (suc (suc m))) q
+
+  module _ (l : i + 1 < recordsOf b) {f : ℕ} (d : f ≡ spanAt b (i + 1)) where
+    pub fits-one : childrenOf (kindAt b i) ≡ 1 → eqb s (1 + f) ≡ spanFits (rowAt b i .children) b (recordsOf b) i
+    fits-one h = rw (e, d) (sym (rw (fits-by b i 1 h, lt-ltb (i + 1) (recordsOf b) l)))
+
+    pub fits-late : childrenOf (kindAt b i) ≡ 2 → recordsOf b ≤ i + 1 + f → false ≡ spanFits (rowAt b i .children) b (recordsOf b) i
+    fits-late h n = sym (rw (fits-by b i 2 h, lt-ltb (i + 1) (recordsOf b) l, le-ltb (secondAt b i) (recordsOf b) (omega arith)))
+
+    pub fits-two : childrenOf (kindAt b i) ≡ 2 → i + 1 + f < recordsOf b → {g : ℕ} → g ≡ spanAt b (i + 1 + f) → eqb s (1 + f + g) ≡ spanFits (rowAt b i .children) b (recordsOf b) i
+    fits-two h n q = rw (e, q, d) (sym (rw (fits-by b i 2 h, lt-ltb (i + 1) (recordsOf b) l, lt-ltb (secondAt b i) (recordsOf b) (omega arith))))
+
+-- ---- stage 2, as the code finds it: x is whether the span fits
+module _ (b : List ℕ) (i : ℕ) {x : Bool} (e : x ≡ spanFits (rowAt b i .children) b (recordsOf b) i) where
+  pub shape-wrong : not x ≡ true → false ≡ shapeRight b (recordsOf b) i
+  shape-wrong h = sym (rw (← e, not-true x h))
+
+  pub shape-later : not x ≡ false → (i ≡ 0 → ⊥) → true ≡ shapeRight b (recordsOf b) i
+  shape-later h n = sym (rw (← e, not-false x h, ne-eqb i 0 n))
+
+  pub shape-root : not x ≡ false → i ≡ 0 → {s : ℕ} → s ≡ spanAt b 0 → eqb s (recordsOf b) ≡ shapeRight b (recordsOf b) i
+  shape-root h z q = rw q (sym (rw (← e, not-false x h, eq-eqb i 0 z)))
+
+-- ---- ranges
+abbrev pub nameRanges : List ℕ
+nameRanges = 0 ∷ 3 ∷ 3 ∷ 3 ∷ 3 ∷ 3 ∷ 3 ∷ 3 ∷ 3 ∷ 3 ∷ 3 ∷ 0 ∷ 2 ∷ 0 ∷ 0 ∷ 3 ∷ 3 ∷ 0 ∷ 0 ∷ 0 ∷ []
+
+abbrev pub numberRanges : List ℕ
+numberRanges = 0 ∷ 1 ∷ 1 ∷ 2 ∷ 2 ∷ 2 ∷ 2 ∷ 2 ∷ 0 ∷ 0 ∷ 0 ∷ 0 ∷ 0 ∷ 0 ∷ 0 ∷ 0 ∷ 0 ∷ 0 ∷ 0 ∷ 0 ∷ []
+
+pub names-right : (k : ℕ) → k < 20 → rangeOf (getD nameRanges k 0) ≡ nameRange k
+names-right =
+    each (λ k. rangeOf (getD nameRanges k 0) ≡ nameRange k) 20
+    (refl, (refl, (refl, (refl, (refl, (refl, (refl, (refl, (refl, (refl, (refl, (refl, (refl, (refl, (refl, (refl, (refl, (refl, (refl, (refl, tt))))))))))))))))))))
+
+pub numbers-right : (k : ℕ) → k < 20 → rangeOf (getD numberRanges k 0) ≡ numberRange k
+numbers-right =
+    each (λ k. rangeOf (getD numberRanges k 0) ≡ numberRange k) 20
+    (refl, (refl, (refl, (refl, (refl, (refl, (refl, (refl, (refl, (refl, (refl, (refl, (refl, (refl, (refl, (refl, (refl, (refl, (refl, (refl, tt))))))))))))))))))))
+
+pub no-row : (k : ℕ) → 20 ≤ k → rowOf k ≡ over19
+no-row k h = List·getD-eq-default kinds over19 h
+
+pub range-rest : (r : ℕ) → 3 ≤ r → rangeOf r ≡ oneTo63
+range-rest zero h = absurd (omega arith)
+range-rest (suc zero) h = absurd (omega arith)
+range-rest (suc (suc zero)) h = absurd (omega arith)
+range-rest (suc (suc (suc r))) h = refl
+
+-- the bits of a number lie in a range exactly where the number does
+pub bits-range : (r : Range) (n : ℕ) → inRange r (pos n) ≡ inRange r (toZ w32 n)
+bits-range r n = go r (ltb n 2147483648) refl
+  where
+    go : (r : Range) (x : Bool) → ltb n 2147483648 ≡ x → inRange r (pos n) ≡ inRange r (toZ w32 n)
+    go r true e = rw e
+    go nought false e = rw (e, ne-eqb n 0 (λ z. omega (arith, ltb-false n 2147483648 e)))
+    go anything false e = refl
+    go upTo63 false e = rw (e, lt-leb n 63 (omega (arith, ltb-false n 2147483648 e)))
+    go oneTo63 false e = rw (e, le-leb 1 n (omega (arith, ltb-false n 2147483648 e)), lt-leb n 63 (omega (arith, ltb-false n 2147483648 e)))
+
+-- ---- stage 3, as the code finds it: k is the kind, v the name, z the number's bits
+module _ (b : List ℕ) (i : ℕ) {k : ℕ} (e : k ≡ kindAt b i) {v : ℕ} (d : v ≡ nameAt b i) (r : ℕ) (p : rangeOf r ≡ nameRange k) {x : Bool} (f : x ≡ inRange (rangeOf r) (pos v)) where
+  name-says : x ≡ inRange (rowAt b i .name) (pos (nameAt b i))
+  name-says = f ∙ rw (p, d, e)
+
+  pub name-wrong : not x ≡ true → false ≡ inKindsTable b i
+  name-wrong h = sym (rw (← name-says, not-true x h))
+
+  pub number-says : not x ≡ false → {z : ℕ} → z ≡ bitsAt b i → (s : ℕ) → rangeOf s ≡ numberRange k → inRange (rangeOf s) (pos z) ≡ inKindsTable b i
+  number-says h {z} g s q =
+      let w : inRange (rangeOf s) (pos z) ≡ inRange (rowAt b i .number) (numberAt b i) = rw (q, g, e) (bits-range (rowAt b i .number) (bitsAt b i)) in
+      w ∙ sym (rw (← name-says, not-false x h))
+
+-- ---- failing places
+pub all-left : (ok : ℕ → Bool) (n : ℕ) → firstOf (failing ok 0 n) ≡ firstOf (failing ok 0 (n - 0))
+all-left ok n = let e : n - 0 ≡ n = omega arith in rw e
+
+module _ (ok : ℕ → Bool) (i n : ℕ) (l : i < n) where
+  one-more : failing ok i (n - i) ≡ (if ok i then failing ok (i + 1) (n - (i + 1)) else i ∷ failing ok (i + 1) (n - (i + 1)))
+  unfolding failing
+  one-more =
+      let e : n - i ≡ suc (n - (i + 1)) = omega arith in
+      let f : i + 1 ≡ suc i = omega arith in
+      rw (e, f)
+
+  pub passes-here : ok i ≡ true → firstOf (failing ok i (n - i)) ≡ firstOf (failing ok (i + 1) (n - (i + 1)))
+  passes-here e = rw (one-more, e)
+
+  pub fails-here : ok i ≡ false → firstOf (failing ok i (n - i)) ≡ At i
+  fails-here e = rw (one-more, e)
+
+pub none-left : (ok : ℕ → Bool) (i n : ℕ) → n ≤ i → firstOf (failing ok i (n - i)) ≡ Nothing
+unfolding failing
+none-left ok i n h = let e : n - i ≡ 0 = omega arith in rw e

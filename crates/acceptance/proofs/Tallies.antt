@@ -1,0 +1,121 @@
+-- What the walk from a place counts, and how far it can count.
+-- Assumes nothing.
+use mathlib.Core.Path.{_≡_, refl, sym, ap, subst, _∙_}
+use mathlib.Core.Bool.{Bool, true, false, not, _&&_}
+use mathlib.Core.List.{List, [], _∷_, _++_}
+use Prim.Native.Nat.{ℕ, zero, suc, _+_, _*_, _≤_, _<_, max}
+use native.Mathlib.Omega.{arith}
+use lib.Dec.{eqb}
+use lib.ListN.{length}
+use Rattle.rules.specs.Stages.{if_then_else_}
+use Rattle.rules.specs.Table.{kindAt, spanAt, secondAt, recordsOf}
+use Rattle.rules.specs.Check.{Around, Visit, walk, hits, count, deepest, isKind, outsideEvery, insideEvery}
+use Rattle.theory.specs.Walk.{walk-size}
+use Rattle.table.specs.Kinds.{childrenOf}
+use Rattle.table.specs.Places.{Place, treeOf}
+use Rattle.table.proofs.Places.{children-most}
+use Rattle.table.proofs.Trees.{tree-span, tree-program, span-inside}
+use Rattle.acceptance.specs.Walks.{inner, visitAt, belowAt}
+use Rattle.acceptance.specs.Counts.{tallied, tallyOf, sumOf, oneIf, ownTally}
+use Rattle.acceptance.specs.declared.counts.Tally.{Tally}
+use Rattle.acceptance.proofs.Visits.{walk-at}
+
+same : {e d o n e′ d′ o′ n′ : ℕ} → e ≡ e′ → d ≡ d′ → o ≡ o′ → n ≡ n′ → tallied e d o n ≡ tallied e′ d′ o′ n′
+same p q r s = rw (p, q, r, s)
+
+-- ---- of a list
+
+count-cons : (f : Visit → Bool) (v : Visit) (vs : List Visit) → count f (v ∷ vs) ≡ oneIf (f v) + count f vs
+unfolding hits
+count-cons f v vs = go (f v)
+  where
+    go : (x : Bool) → length (if x then v .place ∷ hits f vs else hits f vs) ≡ oneIf x + length (hits f vs)
+    go true = omega arith
+    go false = omega arith
+
+count-append : (f : Visit → Bool) (us vs : List Visit) → count f (us ++ vs) ≡ count f us + count f vs
+unfolding hits
+count-append f [] vs = omega arith
+count-append f (u ∷ us) vs = omega (arith, count-cons f u (us ++ vs), count-cons f u us, count-append f us vs)
+
+deepest-append : (us vs : List Visit) → deepest (us ++ vs) ≡ max (deepest us) (deepest vs)
+unfolding deepest
+deepest-append [] vs = omega arith
+deepest-append (u ∷ us) vs = omega (arith, deepest-append us vs)
+
+tally-cons : (v : Visit) (vs : List Visit) → tallyOf (v ∷ vs) ≡ sumOf (ownTally (v .kind) (v .around)) (tallyOf vs)
+unfolding tallyOf ownTally deepest
+tally-cons v vs = same (count-cons (isKind 10) v vs) (go (eqb (v .kind) 14)) (count-cons outsideEvery v vs) (count-cons insideEvery v vs)
+  where
+    go : (x : Bool) → max (if x then suc (v .around .loops) else 0) (deepest vs) ≡ max (if x then v .around .loops + 1 else 0) (deepest vs)
+    go true = omega arith
+    go false = refl
+
+tally-append : (us vs : List Visit) → tallyOf (us ++ vs) ≡ sumOf (tallyOf us) (tallyOf vs)
+unfolding tallyOf
+tally-append us vs = same (count-append (isKind 10) us vs) (deepest-append us vs) (count-append outsideEvery us vs) (count-append insideEvery us vs)
+
+tally-nil : (t : Tally) → sumOf t (tallyOf []) ≡ t
+unfolding tallyOf deepest hits
+tally-nil t = same (omega arith) (omega arith) (omega arith) (omega arith)
+
+sum-assoc : (r s t : Tally) → sumOf r (sumOf s t) ≡ sumOf (sumOf r s) t
+sum-assoc r s t = same (omega arith) (omega arith) (omega arith) (omega arith)
+
+-- ---- of the walk from a place; k is the kind there, o its own count, w stands around the children
+module _ (b : List ℕ) (i : ℕ) (p : Place b i) (a : Around) {k : ℕ} (q : k ≡ kindAt b i) {o : Tally} (m : o ≡ ownTally k a) where
+  all : tallyOf (walk a (treeOf b i)) ≡ sumOf o (tallyOf (belowAt (childrenOf k) b (inner k a) i))
+  unfolding visitAt
+  all = rw (m, q, walk-at b i p a) (tally-cons (visitAt b a i) (belowAt (childrenOf (kindAt b i)) b (inner (kindAt b i) a) i))
+
+  pub tally-leaf : childrenOf k ≡ 0 → tallyOf (walk a (treeOf b i)) ≡ o
+  tally-leaf h = all ∙ rw h (tally-nil o)
+
+  module _ {w : Around} (r : w ≡ inner k a) {l : Tally} (u : l ≡ tallyOf (walk w (treeOf b (i + 1)))) where
+    pub tally-one : childrenOf k ≡ 1 → tallyOf (walk a (treeOf b i)) ≡ sumOf o l
+    tally-one h = all ∙ rw (h, u, r)
+
+    pub tally-two : 2 ≤ childrenOf k → {j : ℕ} → j ≡ secondAt b i → {n : Tally} → n ≡ tallyOf (walk w (treeOf b j)) → tallyOf (walk a (treeOf b i)) ≡ sumOf (sumOf o l) n
+    tally-two h {j} e {n} v =
+        let c : childrenOf k ≡ 2 = omega (arith, ap childrenOf q, children-most b i p) in
+        all ∙ rw (c, v, e, u, r) (ap (sumOf o) (tally-append (walk (inner k a) (treeOf b (i + 1))) (walk (inner k a) (treeOf b (secondAt b i)))) ∙ sum-assoc o (tallyOf (walk (inner k a) (treeOf b (i + 1)))) (tallyOf (walk (inner k a) (treeOf b (secondAt b i)))))
+
+-- ---- bounds
+
+-- no count is above n
+pub record Small (n : ℕ) (t : Tally) : Type 0 where
+  pub emits : t .emits ≤ n
+  pub outside : t .outside ≤ n
+  pub inside : t .inside ≤ n
+
+one-most : (x : Bool) → oneIf x ≤ 1
+one-most true = omega arith
+one-most false = omega arith
+
+count-most : (f : Visit → Bool) (vs : List Visit) → count f vs ≤ length vs
+unfolding hits
+count-most f [] = omega arith
+count-most f (v ∷ vs) = omega (arith, count-cons f v vs, one-most (f v), count-most f vs)
+
+pub small-by : {n : ℕ} {s t : Tally} → s ≡ t → Small n t → Small n s
+small-by {n} e h = subst (Small n) (sym e) h
+
+pub own-small : (k : ℕ) (a : Around) → Small 1 (ownTally k a)
+unfolding ownTally
+own-small k a = record { emits = one-most (eqb k 10); outside = one-most (eqb k 7 && not (a .inEvery)); inside = one-most (eqb k 7 && a .inEvery) }
+
+pub sum-small : {m n : ℕ} {s t : Tally} → Small m s → Small n t → Small (m + n) (sumOf s t)
+sum-small h l = record { emits = omega (arith, h .emits, l .emits); outside = omega (arith, h .outside, l .outside); inside = omega (arith, h .inside, l .inside) }
+
+pub walk-small : (b : List ℕ) (i : ℕ) → Place b i → recordsOf b ≤ 256 → (a : Around) → Small 256 (tallyOf (walk a (treeOf b i)))
+unfolding tallyOf
+walk-small b i p l a =
+    let n : length (walk a (treeOf b i)) ≤ 256 = omega (arith, walk-size a (treeOf b i) (tree-program b i p), tree-span b i p, span-inside b i p) in
+    record {
+      emits = omega (arith, count-most (isKind 10) (walk a (treeOf b i)));
+      outside = omega (arith, count-most outsideEvery (walk a (treeOf b i)));
+      inside = omega (arith, count-most insideEvery (walk a (treeOf b i)));
+    }
+
+pub plus-fits : {m n : ℕ} {s t : Tally} → Small m s → Small n t → m + n ≤ 65535 → (s .emits + t .emits ≤ 65535) × (s .outside + t .outside ≤ 65535) × (s .inside + t .inside ≤ 65535)
+plus-fits h l e = (omega (arith, h .emits, l .emits), omega (arith, h .outside, l .outside), omega (arith, h .inside, l .inside))

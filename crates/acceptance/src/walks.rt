@@ -1,0 +1,191 @@
+// Stages 4 to 7: recursive walks over the tree, the span falling at each call.
+ghost use mathlib.Core.Path.{_≡_};
+ghost use mathlib.Core.Bool.{_||_};
+ghost use lib.Dec.{eqb, leb};
+ghost use Prim.Native.Nat.{_≤_, _<_};
+ghost use Rattle.rules.specs.Check.{mayBreak, mayEnd, walk, hits, visitsOf, nothingAround};
+ghost use Rattle.table.specs.Places.{Place, treeOf};
+ghost use Rattle.acceptance.specs.Places.{Inside, firstOf};
+ghost use Rattle.acceptance.specs.Walks.{aroundOf, inner, visitAt, failsOf, first};
+
+use rules::Limits;
+use crate::Found;
+
+// Whether a break stands at place i or below with no nearer loop.
+pub fn may_break(table: &[u8], i: usize) -> bool
+    requires { ⌜ Place (now table) i ⌝ }
+    ensures { λ r. ⌜ r ≡ mayBreak (treeOf (now (table .entry)) i) ⌝ }
+{
+    let children = table::children_at(table, i);
+    if children == 0 {
+        return table::kind_at(table, i) == 11;
+    }
+    if children == 1 {
+        return false;
+    }
+    if may_break(table, i + 1) {
+        return true;
+    }
+    let next = table::second_at(table, i);
+    may_break(table, next)
+}
+
+// An if and an or may end where either child may, a sequence and an and where both may.
+fn either_suffices(kind: usize) -> bool
+    ensures { λ r. ⌜ r ≡ (eqb kind 12 || eqb kind 18) ⌝ }
+{
+    kind == 12 || kind == 18
+}
+
+// Whether the construct at place i may end at once.
+pub fn may_end(table: &[u8], i: usize) -> bool
+    requires { ⌜ Place (now table) i ⌝ }
+    ensures { λ r. ⌜ r ≡ mayEnd (treeOf (now (table .entry)) i) ⌝ }
+{
+    let kind = table::kind_at(table, i);
+    if kind < 12 {
+        return kind != 8 && kind != 11;
+    }
+    if kind == 14 {
+        return may_break(table, i + 1);
+    }
+    if table::children_of(kind) == 1 {
+        return false;
+    }
+    if either_suffices(kind) {
+        if may_end(table, i + 1) {
+            return true;
+        }
+        let right = table::second_at(table, i);
+        return may_end(table, right);
+    }
+    if !may_end(table, i + 1) {
+        return false;
+    }
+    let next = table::second_at(table, i);
+    may_end(table, next)
+}
+
+// What stands around a construct.
+pub struct Around {
+    pub loops: usize,
+    pub in_every: bool,
+    pub in_fin: bool,
+}
+
+impl Around {
+    pub fn nothing() -> Around
+        ensures { λ r. ⌜ aroundOf r ≡ nothingAround ⌝ }
+    {
+        Around {
+            loops: 0,
+            in_every: false,
+            in_fin: false,
+        }
+    }
+
+    // Under an every or a fin.
+    fn confined(self) -> bool
+        ensures { λ r. ⌜ r ≡ (self .«in_every» || self .«in_fin») ⌝ }
+    {
+        self.in_every || self.in_fin
+    }
+
+    // What stands around the children of a construct of this kind.
+    pub fn within(self, kind: usize) -> Around
+        requires { ⌜ self .loops < 18446744073709551615 ⌝ }
+        ensures { λ r. ⌜ aroundOf r ≡ inner kind (aroundOf self) ⌝ }
+    {
+        let loops = self.loops;
+        let in_every = self.in_every;
+        let in_fin = self.in_fin;
+        if kind == 14 {
+            return Around {
+                loops: loops + 1,
+                in_every,
+                in_fin,
+            };
+        }
+        if kind == 15 || kind == 16 {
+            return Around {
+                loops,
+                in_every: true,
+                in_fin,
+            };
+        }
+        if kind == 19 {
+            return Around {
+                loops,
+                in_every,
+                in_fin: true,
+            };
+        }
+        self
+    }
+}
+
+// Kinds 0 to 7, 12, 13.
+fn is_plain(kind: usize) -> bool
+    ensures { λ r. ⌜ r ≡ (leb kind 7 || eqb kind 12 || eqb kind 13) ⌝ }
+{
+    if kind <= 7 {
+        return true;
+    }
+    kind == 12 || kind == 13
+}
+
+// Whether the construct at place i fails a stage.
+fn node_fails(table: &[u8], i: usize, stage: u8, around: Around) -> bool
+    requires { ⌜ Place (now table) i ⌝ }
+    ensures { λ r. ⌜ r ≡ failsOf stage (visitAt (now (table .entry)) (aroundOf around) i) ⌝ }
+{
+    let kind = table::kind_at(table, i);
+    if stage == 4 {
+        return kind == 11 && around.loops == 0;
+    }
+    if stage == 5 {
+        return around.confined() && !is_plain(kind);
+    }
+    if stage == 6 {
+        return kind == 14 && Limits::LOOPS <= around.loops;
+    }
+    if kind != 14 {
+        return false;
+    }
+    may_end(table, i + 1)
+}
+
+// The lowest place from i on, within the construct there, that fails a stage.
+pub fn first_node(table: &[u8], i: usize, stage: u8, around: Around) -> Found
+    requires { ⌜ Place (now table) i ⌝ }
+    requires { ⌜ around .loops ≤ i ⌝ }
+    ensures { λ r. ⌜ (r ≡ first (failsOf stage) (walk (aroundOf around) (treeOf (now (table .entry)) i))) × Inside (now (table .entry)) r ⌝ }
+{
+    if node_fails(table, i, stage, around) {
+        return Found::At(i);
+    }
+    let children = table::children_at(table, i);
+    if children == 0 {
+        return Found::Nothing;
+    }
+    let inside = around.within(table::kind_at(table, i));
+    let left = first_node(table, i + 1, stage, inside);
+    if children == 1 {
+        return left;
+    }
+    match left {
+        Found::At(place) => Found::At(place),
+        Found::Nothing => {
+            let next = table::second_at(table, i);
+            first_node(table, next, stage, inside)
+        }
+    }
+}
+
+// The lowest place of the program that fails a stage.
+pub fn first_of_program(table: &[u8], stage: u8) -> Found
+    requires { ⌜ Place (now table) 0 ⌝ }
+    ensures { λ r. ⌜ (r ≡ firstOf (hits (failsOf stage) (visitsOf (now (table .entry))))) × Inside (now (table .entry)) r ⌝ }
+{
+    first_node(table, 0, stage, Around::nothing())
+}

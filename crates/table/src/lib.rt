@@ -1,0 +1,98 @@
+// What a record of a table says. Each function asks for a place inside the table.
+ghost use mathlib.Core.Path.{_≡_};
+ghost use Prim.Native.Nat.{_+_, _<_, _≤_};
+ghost use mir.Val.{toZ};
+ghost use mir.Syntax.{w32};
+ghost use Rattle.rules.specs.Table.{byteAt, kindAt, nameAt, spanAt, numberAt, secondAt, recordsOf};
+ghost use Rattle.table.specs.Kinds.{childrenOf};
+ghost use Rattle.table.specs.Places.{bitsAt};
+
+use rules::Limits;
+
+fn wide(x: u8) -> usize
+    ensures { λ r. ⌜ (r ≡ x) × (r < 256) ⌝ }
+{
+    x as usize
+}
+
+// Byte k of the record at place i.
+fn byte_at(table: &[u8], i: usize, k: usize) -> usize
+    requires { ⌜ (i < recordsOf (now table)) × (k < 8) ⌝ }
+    ensures { λ r. ⌜ (r ≡ byteAt (now (table .entry)) i k) × (r < 256) ⌝ }
+{
+    wide(table[Limits::RECORD_BYTES * i + k])
+}
+
+pub fn kind_at(table: &[u8], i: usize) -> usize
+    requires { ⌜ i < recordsOf (now table) ⌝ }
+    ensures { λ r. ⌜ (r ≡ kindAt (now (table .entry)) i) × (r < 256) ⌝ }
+{
+    byte_at(table, i, 0)
+}
+
+pub fn name_at(table: &[u8], i: usize) -> usize
+    requires { ⌜ i < recordsOf (now table) ⌝ }
+    ensures { λ r. ⌜ (r ≡ nameAt (now (table .entry)) i) × (r < 256) ⌝ }
+{
+    byte_at(table, i, 1)
+}
+
+pub fn span_at(table: &[u8], i: usize) -> usize
+    requires { ⌜ i < recordsOf (now table) ⌝ }
+    ensures { λ r. ⌜ (r ≡ spanAt (now (table .entry)) i) × (r < 65536) ⌝ }
+{
+    byte_at(table, i, 2) + 256 * byte_at(table, i, 3)
+}
+
+// The number of 32 signed bits that 32 bits stand for.
+pub fn signed(bits: u32) -> i32
+    ensures { λ r. ⌜ r ≡ toZ w32 bits ⌝ }
+{
+    if bits < 2147483648 {
+        bits as i32
+    } else {
+        -1 - (4294967295 - bits) as i32
+    }
+}
+
+// The number of a record as its 32 bits.
+pub fn bits_at(table: &[u8], i: usize) -> u32
+    requires { ⌜ i < recordsOf (now table) ⌝ }
+    ensures { λ r. ⌜ r ≡ bitsAt (now (table .entry)) i ⌝ }
+{
+    let low = byte_at(table, i, 4) + 256 * byte_at(table, i, 5);
+    let high = byte_at(table, i, 6) + 256 * byte_at(table, i, 7);
+    (low + 65536 * high) as u32
+}
+
+pub fn number_at(table: &[u8], i: usize) -> i32
+    requires { ⌜ i < recordsOf (now table) ⌝ }
+    ensures { λ r. ⌜ r ≡ numberAt (now (table .entry)) i ⌝ }
+{
+    signed(bits_at(table, i))
+}
+
+// The place of the second child, where the record at place i has a first.
+pub fn second_at(table: &[u8], i: usize) -> usize
+    requires { ⌜ i + 1 < recordsOf (now table) ⌝ }
+    ensures { λ r. ⌜ r ≡ secondAt (now (table .entry)) i ⌝ }
+{
+    i + 1 + span_at(table, i + 1)
+}
+
+// How many children each kind has, from kind 0 on.
+const CHILDREN: [u8; 20] = [0, 0, 0, 0, 0, 0, 0, 0, 0, 0, 0, 0, 2, 2, 1, 1, 1, 2, 2, 1];
+
+// 3 for a kind over 19.
+pub fn children_of(kind: usize) -> u8
+    ensures { λ r. ⌜ (r ≡ childrenOf kind) × (r ≤ 3) ⌝ }
+{
+    if kind < 20 { CHILDREN[kind] } else { 3 }
+}
+
+pub fn children_at(table: &[u8], i: usize) -> u8
+    requires { ⌜ i < recordsOf (now table) ⌝ }
+    ensures { λ r. ⌜ (r ≡ childrenOf (kindAt (now (table .entry)) i)) × (r ≤ 3) ⌝ }
+{
+    children_of(kind_at(table, i))
+}
