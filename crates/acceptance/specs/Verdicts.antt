@@ -17,10 +17,10 @@ unfolding visitsOf hits announced firstRefusal
 nodesVerdict b =
     verdict
     (firstRefusal (
-      stage 4 (hits looseBreak (visitsOf b)) ∷
-      stage 5 (hits notPlain (visitsOf b)) ∷
-      stage 6 (hits deepLoop (visitsOf b)) ∷
-      stage 7 (hits endlessLoop (visitsOf b)) ∷
-      []
+    stage 4 (hits looseBreak (visitsOf b)) ∷
+    stage 5 (hits notPlain (visitsOf b)) ∷
+    stage 6 (hits deepLoop (visitsOf b)) ∷
+    stage 7 (hits endlessLoop (visitsOf b)) ∷
+    []
     ))
     (announced b)

@@ -7,10 +7,9 @@ ghost use Rattle.rules.specs.Check.{walk, deepest, visitsOf, announced};
 ghost use Rattle.table.specs.Places.{Place, treeOf};
 ghost use Rattle.acceptance.specs.Walks.{aroundOf};
 ghost use Rattle.acceptance.specs.Counts.{ownTally, outputTally, sumOf, tallyOf, announcedOf};
-
-use rules::Limits;
 use crate::Announced;
 use crate::walks::Around;
+use rules::Limits;
 
 // Emits, the deepest nesting of loops, outputs outside and inside an every.
 pub struct Tally {

@@ -8,9 +8,9 @@ ghost use Rattle.rules.specs.Check as Rules;
 ghost use Rattle.table.specs.Places.{Place};
 ghost use Rattle.acceptance.specs.Verdicts.{verdictOf, nodesVerdict};
 
+mod counts;
 mod records;
 mod walks;
-mod counts;
 
 // The lowest place that fails a stage.
 pub enum Found {

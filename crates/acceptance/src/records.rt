@@ -7,9 +7,8 @@ ghost use Rattle.rules.specs.Stages.{failing};
 ghost use Rattle.rules.specs.Check.{goodLength};
 ghost use Rattle.acceptance.specs.Records.{rangeOf, nameRange, numberRange, rightAt};
 ghost use Rattle.acceptance.specs.Places.{Inside, firstOf};
-
-use rules::Limits;
 use crate::Found;
+use rules::Limits;
 
 pub fn good_length(table: &[u8]) -> bool
     ensures { λ r. ⌜ r ≡ goodLength (now (table .entry)) ⌝ }
@@ -67,6 +66,7 @@ fn shape_right(table: &[u8], i: usize) -> bool
 
 // What a name and a number may be, for each kind from 0 on: only 0 (0), anything (1), at most 63 (2), 1 to 63 (3).
 const NAMES: [u8; 20] = [0, 3, 3, 3, 3, 3, 3, 3, 3, 3, 3, 0, 2, 0, 0, 3, 3, 0, 0, 0];
+
 const NUMBERS: [u8; 20] = [0, 1, 1, 2, 2, 2, 2, 2, 0, 0, 0, 0, 0, 0, 0, 0, 0, 0, 0, 0];
 
 fn name_range(kind: usize) -> u8

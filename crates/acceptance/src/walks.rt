@@ -7,9 +7,8 @@ ghost use Rattle.rules.specs.Check.{mayBreak, mayEnd, walk, hits, visitsOf, not
 ghost use Rattle.table.specs.Places.{Place, treeOf};
 ghost use Rattle.acceptance.specs.Places.{Inside, firstOf};
 ghost use Rattle.acceptance.specs.Walks.{aroundOf, inner, visitAt, failsOf, first};
-
-use rules::Limits;
 use crate::Found;
+use rules::Limits;
 
 // Whether a break stands at place i or below with no nearer loop.
 pub fn may_break(table: &[u8], i: usize) -> bool

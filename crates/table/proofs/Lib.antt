@@ -1,5 +1,4 @@
 -- Laws of tables, for this crate's functions and for every crate that walks a table.
-pub mod Signs
 pub mod Counting
 pub mod Places
 pub mod Trees

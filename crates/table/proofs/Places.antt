@@ -33,8 +33,7 @@ fits-for one b i h = (
   eqb→eq (spanAt b i) (1 + spanAt b (i + 1)) (both-right (ltb (i + 1) (recordsOf b)) (eqb (spanAt b i) (1 + spanAt b (i + 1))) h),
 )
 fits-for two b i h =
-    let inside = both-left (ltb (i + 1) (recordsOf b) && ltb (secondAt b i) (recordsOf b)) (eqb (spanAt b i) (1 + spanAt b (i + 1) + spanAt b (secondAt b i))) h in
-    (
+    let inside = both-left (ltb (i + 1) (recordsOf b) && ltb (secondAt b i) (recordsOf b)) (eqb (spanAt b i) (1 + spanAt b (i + 1) + spanAt b (secondAt b i))) h in (
       ltb→lt (i + 1) (recordsOf b) (both-left (ltb (i + 1) (recordsOf b)) (ltb (secondAt b i) (recordsOf b)) inside),
       ltb→lt (secondAt b i) (recordsOf b) (both-right (ltb (i + 1) (recordsOf b)) (ltb (secondAt b i) (recordsOf b)) inside),
       eqb→eq (spanAt b i) (1 + spanAt b (i + 1) + spanAt b (secondAt b i)) (both-right (ltb (i + 1) (recordsOf b) && ltb (secondAt b i) (recordsOf b)) (eqb (spanAt b i) (1 + spanAt b (i + 1) + spanAt b (secondAt b i))) h),

@@ -1,12 +1,10 @@
 // What a record of a table says. Each function asks for a place inside the table.
 ghost use mathlib.Core.Path.{_≡_};
 ghost use Prim.Native.Nat.{_+_, _<_, _≤_};
-ghost use mir.Val.{toZ};
-ghost use mir.Syntax.{w32};
 ghost use Rattle.rules.specs.Table.{byteAt, kindAt, nameAt, spanAt, numberAt, secondAt, recordsOf};
 ghost use Rattle.table.specs.Kinds.{childrenOf};
 ghost use Rattle.table.specs.Places.{bitsAt};
-
+use memory::signed;
 use rules::Limits;
 
 fn wide(x: u8) -> usize
@@ -42,17 +40,6 @@ pub fn span_at(table: &[u8], i: usize) -> usize
     ensures { λ r. ⌜ (r ≡ spanAt (now (table .entry)) i) × (r < 65536) ⌝ }
 {
     byte_at(table, i, 2) + 256 * byte_at(table, i, 3)
-}
-
-// The number of 32 signed bits that 32 bits stand for.
-pub fn signed(bits: u32) -> i32
-    ensures { λ r. ⌜ r ≡ toZ w32 bits ⌝ }
-{
-    if bits < 2147483648 {
-        bits as i32
-    } else {
-        -1 - (4294967295 - bits) as i32
-    }
 }
 
 // The number of a record as its 32 bits.

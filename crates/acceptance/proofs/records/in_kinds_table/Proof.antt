@@ -27,7 +27,7 @@ in-range-requires : tie.Need-in-range-requires
 in-range-requires c κs = search needs
 
 returns : tie.Need-returns
-returns c = name-wrong (c .before .before .before .before .before .before .args .table .now) (c .before .before .before .before .before .before .args .i) (c .before .before .before .before .kind-at .ensures .0) (c .before .before .name-at .ensures .0) (c .before .before .before .name-range .result) (c .before .before .before .name-range .ensures) (c .before .in-range .ensures)  (c .if1 .taken)
+returns c = name-wrong (c .before .before .before .before .before .before .args .table .now) (c .before .before .before .before .before .before .args .i) (c .before .before .before .before .kind-at .ensures .0) (c .before .before .name-at .ensures .0) (c .before .before .before .name-range .result) (c .before .before .before .name-range .ensures) (c .before .in-range .ensures) (c .if1 .taken)
 
 number-range-requires : tie.Need-number-range-requires
 number-range-requires c κs = search needs
@@ -42,7 +42,7 @@ in-range-requires-2 : tie.Need-in-range-requires-2
 in-range-requires-2 c κs = search needs
 
 returns-2 : tie.Need-returns-2
-returns-2 c = c .in-range2 .ensures ∙ number-says (c .before .before .before .before .before .before .before .before .before .args .table .now) (c .before .before .before .before .before .before .before .before .before .args .i) (c .before .before .before .before .before .before .before .kind-at .ensures .0) (c .before .before .before .before .before .name-at .ensures .0) (c .before .before .before .before .before .before .name-range .result) (c .before .before .before .before .before .before .name-range .ensures) (c .before .before .before .before .in-range .ensures)  (c .before .before .before .if1 .left) (c .before .bits-at .ensures) (c .before .before .number-range .result) (c .before .before .number-range .ensures)
+returns-2 c = c .in-range2 .ensures ∙ number-says (c .before .before .before .before .before .before .before .before .before .args .table .now) (c .before .before .before .before .before .before .before .before .before .args .i) (c .before .before .before .before .before .before .before .kind-at .ensures .0) (c .before .before .before .before .before .name-at .ensures .0) (c .before .before .before .before .before .before .name-range .result) (c .before .before .before .before .before .before .name-range .ensures) (c .before .before .before .before .in-range .ensures) (c .before .before .before .if1 .left) (c .before .bits-at .ensures) (c .before .before .number-range .result) (c .before .before .number-range .ensures)
 
 pub in-kinds-table-spec : {M : Type 1} → statement M
 in-kinds-table-spec =
