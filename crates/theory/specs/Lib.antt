@@ -38,17 +38,19 @@ pub mod Lists
 -- whole runs, on trees
 pub mod Big
 pub mod Follow
--- the same on the engine's state, one number for each record
+-- the engine's state, one number for each record: what the walks over it do, whatever the memory
 pub mod State
 pub mod Round
+pub mod AnyMemory
+-- the walks on states are the whole runs on trees, and the round is the reaction
 pub mod Sound
 pub mod Frame
 pub mod Shows
 pub mod Sweep
+pub mod View
 pub mod Exec
 pub mod Resume
 pub mod Wake
 pub mod Rests
 pub mod Turns
 pub mod OnStates
-pub mod AnyMemory

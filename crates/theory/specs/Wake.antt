@@ -16,7 +16,7 @@ use Rattle.theory.specs.Logic.{clash, never}
 use Rattle.theory.specs.Program.{Calm}
 use Rattle.theory.specs.Residue.{calm-open}
 use Rattle.theory.specs.Progress.{Live}
-use Rattle.theory.specs.Big.{result, seqF, againF, rightF, parF, waits}
+use Rattle.theory.specs.Big.{Out, ends, result, seqF, againF, rightF, parF, waits}
 use Rattle.theory.specs.Big as Big
 use Rattle.theory.specs.Sound.{Sound}
 use Rattle.theory.specs.State.{awake, wakeAt, still, stillAt}
@@ -218,6 +218,11 @@ module _ (t v : ℕ) (tv : t ≡ v + 3) where
   no-wake {ℓ} : {A : Type ℓ} (y : ℕ) → y ≡ 2 → stillAt t y ≡ true → A
   no-wake y e h = let x : false ≡ true = sym (woken y e) ∙ h in clash (cc)
 
+  -- a turn of another level waits
+  turn-waits : (i k : ℕ) (q : Tree) (x : Memory) → eqb k v ≡ false → Big.resume v (seq i (canrun i k) q) x ≡ result waits (seq i (canrun i k) q) x 0
+  unfolding Big.resume seqF
+  turn-waits i k q x e = ap (λ (b : Bool). let o = if b then result ends (nop i) x 1 else result waits (canrun i k) x 0 in seqF i (o .fate) o q (Big.resume v q)) e
+
   pub still-rests : (a : Tree) {u : Tree} (l : List ℕ) → Shows l a u → still t a l ≡ true → (x : Memory) → Big.resume v u x ≡ result waits u x 0
   unfolding still Big.resume seqF againF parF rightF
   still-rests (await i s n) l (await-waits h) e x = refl
@@ -225,18 +230,19 @@ module _ (t v : ℕ) (tv : t ≡ v + 3) where
   still-rests (emit i n y) l (emit-turn {m = c} h) e x = rw (no-turn (getD l i 0) c h e)
   still-rests (ifvar i n p q) l (if-left h a b) e x = still-rests p l a (three (stillAt t (getD l i 0)) (still t p l) (still t q l) e .1) x
   still-rests (ifvar i n p q) l (if-right h a b) e x = still-rests q l b (three (stillAt t (getD l i 0)) (still t p l) (still t q l) e .2) x
-  still-rests (seq i p q) l (seq-left h a b) e x = rw (still-rests p l a (three (stillAt t (getD l i 0)) (still t p l) (still t q l) e .1) x)
+  still-rests (seq i p q) l (seq-left h a b) e x = ap (λ (o : Out). seqF i (o .fate) o q (Big.resume v q)) (still-rests p l a (three (stillAt t (getD l i 0)) (still t p l) (still t q l) e .1) x)
   still-rests (seq i p q) l (seq-right h a b) e x = still-rests q l b (three (stillAt t (getD l i 0)) (still t p l) (still t q l) e .2) x
-  still-rests (loop i p) l (loop-in h a) e x = rw (still-rests p l a (two (stillAt t (getD l i 0)) (still t p l) e) x)
+  still-rests (loop i p) l (loop-in h a) e x = ap (λ (o : Out). againF i (o .fate) o p (Big.resume v p)) (still-rests p l a (two (stillAt t (getD l i 0)) (still t p l) e) x)
   still-rests (every i s n p) l (every-waits h b) e x = refl
   still-rests (every i s n p) l (every-woken h b) e x = no-wake (getD l i 0) h e
-  still-rests (par i c p q) l (par-both h a b) e x =
+  still-rests (par i c p q) l (par-both {u = u} {v = w} h a b) e x =
       let f = three (stillAt t (getD l i 0)) (still t p l) (still t q l) e in
-      rw (still-rests p l a (f .1) x, still-rests q l b (f .2) x)
+      ap (λ (o : Out). parF i c (o .fate) o w (Big.resume v w)) (still-rests p l a (f .1) x) ∙ ap (λ (o : Out). rightF i c u 0 (o .fate) o) (still-rests q l b (f .2) x)
   still-rests (par i and p q) l (and-left h a b) e x = still-rests p l a (three (stillAt t (getD l i 0)) (still t p l) (still t q l) e .1) x
   still-rests (par i and p q) l (and-right h a b) e x = still-rests q l b (three (stillAt t (getD l i 0)) (still t p l) (still t q l) e .2) x
-  still-rests (par i c p q) l (par-held {m = n} h a b) e x =
+  still-rests (par i c p q) l (par-held {m = n} {u = u} h a b) e x =
       let f = three (stillAt t (getD l i 0)) (still t p l) (still t q l) e in
-      rw (still-rests p l a (f .1) x, no-turn (getD l i 0) n h (f .0))
-  still-rests (par i and p q) l (and-turn {m = n} h a b) e x = rw (no-turn (getD l i 0) n h (three (stillAt t (getD l i 0)) (still t p l) (still t q l) e .0))
+      ap (λ (o : Out). parF i c (o .fate) o (seq i (canrun i n) q) (Big.resume v (seq i (canrun i n) q))) (still-rests p l a (f .1) x)
+      ∙ ap (λ (o : Out). rightF i c u 0 (o .fate) o) (turn-waits i n q x (no-turn (getD l i 0) n h (f .0)))
+  still-rests (par i and p q) l (and-turn {m = n} h a b) e x = turn-waits i n q x (no-turn (getD l i 0) n h (three (stillAt t (getD l i 0)) (still t p l) (still t q l) e .0))
   still-rests (fin i p) l (fin-waits h b) e x = refl
