@@ -1,22 +1,21 @@
 -- The announced numbers of a table that passes the stages: from the counts of its walk, and below 2^32.
 -- Assumes nothing.
-use mathlib.Core.Path.{_≡_, refl, sym, ap, subst, _∙_}
+use mathlib.Core.Path.{_≡_, refl, ap, _∙_}
 use mathlib.Core.List.{List}
 use Prim.Native.Nat.{ℕ, _+_, _*_, _≤_, _<_}
 use native.Mathlib.Omega.{arith}
 use lib.ListN.{length}
 use Rattle.rules.specs.Limits.{mostEmitted, mostLevel, mostSteps, mostOutputs, announce, mostLoops, mostRecords}
 use Rattle.rules.specs.Limits as Rules
-use Rattle.rules.specs.Table.{programOf, recordsOf, spanAt}
-use Rattle.rules.specs.Check.{Around, nothingAround, walk, deepest, visitsOf, announced, numbers}
+use Rattle.rules.specs.Table.{programOf, recordsOf}
+use Rattle.rules.specs.Check.{Around, nothingAround, walk, deepest, visitsOf, announced}
 use Rattle.rules.proofs.Products.{product-bound}
 use Rattle.theory.specs.Walk.{walk-size}
 use Rattle.table.specs.Places.{Place, treeOf}
 use Rattle.table.proofs.Places.{root-span}
 use Rattle.table.proofs.Trees.{tree-span, tree-program}
-use Rattle.acceptance.specs.Counts.{tallied, tallyOf, announcedOf}
+use Rattle.acceptance.specs.Counts.{tallyOf}
 use Rattle.acceptance.specs.declared.counts.Tally.{Tally}
-use Rattle.acceptance.specs.declared.Announced as Code
 use Rattle.acceptance.proofs.Tallies.{Small, walk-small, small-by}
 
 -- the program is the tree at place 0

@@ -1,6 +1,6 @@
 -- May break and may end of the tree at a place, said of the table.
 -- Assumes nothing.
-use mathlib.Core.Path.{_≡_, refl, sym, ap, subst, _∙_}
+use mathlib.Core.Path.{_≡_, refl, subst}
 use mathlib.Core.Bool.{Bool, true, false, not, _&&_, _||_}
 use mathlib.Core.List.{List}
 use Prim.Native.Nat.{ℕ, zero, suc, _+_, _≤_, _<_}
@@ -8,8 +8,8 @@ use native.Mathlib.Omega.{arith}
 use lib.Dec.{eqb, ltb, leb, ltb→lt, leb→le}
 use borrow.Author.Tests.{lt-ltb, le-ltb, eq-eqb, ne-eqb, ltb-true, ltb-false}
 use Rattle.rules.specs.Stages.{if_then_else_}
-use Rattle.rules.specs.Tree.{Tree, Act, Source, Par, assign, increase, copy, subtract, compare, divide, output, input, internal, and, or}
-use Rattle.rules.specs.Table.{kindAt, spanAt, secondAt}
+use Rattle.rules.specs.Tree.{Tree, assign, increase, copy, subtract, compare, divide, output, input, internal, and, or}
+use Rattle.rules.specs.Table.{kindAt, secondAt}
 use Rattle.rules.specs.Check.{mayEnd, mayBreak}
 use Rattle.table.specs.Kinds.{childrenOf}
 use Rattle.table.specs.Places.{Place, treeOf, Node, aNop, anAct, anAwait, anEmit, aBreak, anIf, aSeq, aLoop, anEvery, aPar, aFin}

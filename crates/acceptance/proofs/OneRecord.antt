@@ -6,19 +6,17 @@ use mathlib.Core.List.{List, [], _∷_}
 use Prim.Native.Nat.{ℕ, zero, suc, _+_, _-_, _≤_, _<_}
 use native.Mathlib.Omega.{arith}
 use lib.Dec.{eqb, ltb}
-use lib.IntN.{pos, negsuc}
+use lib.IntN.{pos}
 use lib.ListN.{getD, List·getD-eq-default}
-use borrow.Author.Tests.{ltb-false, not-true, not-false, eq-eqb, ne-eqb, le-leb, lt-leb, lt-ltb, le-ltb}
-use mir.Val.{toZ}
-use mir.Syntax.{w32}
+use borrow.Author.Tests.{not-true, not-false, eq-eqb, ne-eqb, lt-ltb, le-ltb}
 use Rattle.rules.specs.Stages.{if_then_else_, failing}
-use Rattle.rules.specs.Table.{Children, leaf, one, two, wrong, Range, nought, anything, upTo63, oneTo63, kinds, over19, kindAt, spanAt, secondAt, rowAt, recordsOf, spanFits, shapeRight, inRange, inKindsTable, nameAt, numberAt}
+use Rattle.rules.specs.Table.{Children, leaf, one, two, wrong, oneTo63, kinds, over19, kindAt, spanAt, secondAt, rowAt, recordsOf, spanFits, shapeRight, inRange, inKindsTable, nameAt, numberAt}
 use Rattle.table.specs.Kinds.{arity, childrenOf, rowOf}
 use Rattle.table.specs.Places.{bitsAt}
 use Rattle.table.proofs.Counting.{each}
+use Rattle.table.proofs.Passed.{bits-range}
 use Rattle.acceptance.specs.Places.{firstOf}
 use Rattle.acceptance.specs.Records.{rangeOf, nameRange, numberRange}
-use Rattle.acceptance.specs.declared.Found.{Found}
 use Rattle.acceptance.specs.declared.Found.the-variants.{At, Nothing}
 
 -- ---- the span, by the number of children
@@ -101,17 +99,6 @@ range-rest zero h = absurd (omega arith)
 range-rest (suc zero) h = absurd (omega arith)
 range-rest (suc (suc zero)) h = absurd (omega arith)
 range-rest (suc (suc (suc r))) h = refl
-
--- the bits of a number lie in a range exactly where the number does
-pub bits-range : (r : Range) (n : ℕ) → inRange r (pos n) ≡ inRange r (toZ w32 n)
-bits-range r n = go r (ltb n 2147483648) refl
-  where
-    go : (r : Range) (x : Bool) → ltb n 2147483648 ≡ x → inRange r (pos n) ≡ inRange r (toZ w32 n)
-    go r true e = rw e
-    go nought false e = rw (e, ne-eqb n 0 (λ z. omega (arith, ltb-false n 2147483648 e)))
-    go anything false e = refl
-    go upTo63 false e = rw (e, lt-leb n 63 (omega (arith, ltb-false n 2147483648 e)))
-    go oneTo63 false e = rw (e, le-leb 1 n (omega (arith, ltb-false n 2147483648 e)), lt-leb n 63 (omega (arith, ltb-false n 2147483648 e)))
 
 -- ---- stage 3, as the code finds it: k is the kind, v the name, z the number's bits
 module _ (b : List ℕ) (i : ℕ) {k : ℕ} (e : k ≡ kindAt b i) {v : ℕ} (d : v ≡ nameAt b i) (r : ℕ) (p : rangeOf r ≡ nameRange k) {x : Bool} (f : x ≡ inRange (rangeOf r) (pos v)) where

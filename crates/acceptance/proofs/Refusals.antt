@@ -1,21 +1,21 @@
 -- The verdict from the lowest failing places of the stages, and what a table that passes them has.
 -- Assumes nothing.
-use mathlib.Core.Path.{_≡_, refl, sym, ap, subst, _∙_}
+use mathlib.Core.Path.{_≡_, refl, sym, _∙_}
 use mathlib.Core.Bool.{Bool, true, false, not, _&&_}
 use mathlib.Core.List.{List, [], _∷_}
 use mathlib.Core.Option.{Option, some}
-use Prim.Native.Nat.{ℕ, zero, suc, _+_, _%_, _≤_, _<_, max}
+use Prim.Native.Nat.{ℕ, suc, _≤_, max}
 use native.Mathlib.Omega.{arith}
-use lib.Dec.{T, eqb, leb}
-use lib.ListN.{length}
-use borrow.Author.Tests.{eqb-true, eqb-false, leb-true, not-true, not-false, leb-false}
+use lib.Dec.{leb}
+use borrow.Author.Tests.{not-true, not-false, leb-false}
 use Rattle.rules.specs.Stages.{if_then_else_, Refusal, refusal, orElse, firstRefusal, failing}
-use Rattle.rules.specs.Limits.{mostRecords, mostTableBytes, mostLoops}
-use Rattle.rules.specs.Table.{recordsOf, shapeRight, inKindsTable}
-use Rattle.rules.specs.Check.{Verdict, refused, accepted, check, tableStages, announced, visitsOf, Visit, hits, isKind, looseBreak, notPlain, deepLoop, endlessLoop, deepest, goodLength}
+use Rattle.rules.specs.Limits.{mostLoops}
+use Rattle.rules.specs.Table.{recordsOf, shapeRight}
+use Rattle.rules.specs.Check.{refused, accepted, check, tableStages, announced, visitsOf, Visit, hits, isKind, deepLoop, deepest, goodLength}
 use Rattle.theory.specs.Logic.{clash}
 use Rattle.theory.specs.Stages.{none-fails}
-use Rattle.table.specs.Places.{Place, Shape}
+use Rattle.table.proofs.Passed.{Sized, sized}
+use Rattle.table.specs.Places.{Place}
 use Rattle.acceptance.specs.Places.{firstOf}
 use Rattle.acceptance.specs.Records.{rightAt}
 use Rattle.acceptance.specs.Walks.{failsOf}
@@ -84,19 +84,9 @@ module _ (b : List ℕ) {x : Found} (e4 : Finds b 4 x) where
 
 -- ---- what the stages give
 
--- stage 1: 1 to 256 records
-pub record Sized (b : List ℕ) : Type 0 where
-  pub some : 0 < recordsOf b
-  pub most : recordsOf b ≤ mostRecords
-
-pub sized : (b : List ℕ) {x : Bool} → x ≡ goodLength b → not x ≡ false → Sized b
-sized b {x} e h = go (eqb (length b) 0) refl (eqb (length b % 8) 0) refl (leb (length b) mostTableBytes) refl (sym e ∙ not-false x h)
-  where
-    go : (u : Bool) → eqb (length b) 0 ≡ u → (v : Bool) → eqb (length b % 8) 0 ≡ v → (w : Bool) → leb (length b) mostTableBytes ≡ w → (not u && v && w) ≡ true → Sized b
-    go true p v q w r t = clash (cc)
-    go false p true q true r t = record { some = omega (arith, eqb-false (length b) 0 p, eqb-true (length b % 8) 0 q); most = omega (arith, leb-true (length b) mostTableBytes r) }
-    go false p true q false r t = clash (cc)
-    go false p false q w r t = clash (cc)
+-- stage 1: the size
+pub good-size : (b : List ℕ) {x : Bool} → x ≡ goodLength b → not x ≡ false → Sized b
+good-size b {x} e h = sized b (sym e ∙ not-false x h)
 
 -- stage 2: the shape
 pub shaped : (b : List ℕ) → Sized b → {y : Found} → y ≡ firstOf (failing (rightAt 2 b) 0 (recordsOf b)) → y ≡ Nothing → Place b 0

@@ -3,12 +3,12 @@
 use mathlib.Core.Path.{_≡_, refl, sym, ap, subst, _∙_}
 use mathlib.Core.Bool.{Bool, true, false, not, _&&_}
 use mathlib.Core.List.{List, [], _∷_, _++_}
-use Prim.Native.Nat.{ℕ, zero, suc, _+_, _*_, _≤_, _<_, max}
+use Prim.Native.Nat.{ℕ, suc, _+_, _≤_, max}
 use native.Mathlib.Omega.{arith}
 use lib.Dec.{eqb}
 use lib.ListN.{length}
 use Rattle.rules.specs.Stages.{if_then_else_}
-use Rattle.rules.specs.Table.{kindAt, spanAt, secondAt, recordsOf}
+use Rattle.rules.specs.Table.{kindAt, secondAt, recordsOf}
 use Rattle.rules.specs.Check.{Around, Visit, walk, hits, count, deepest, isKind, outsideEvery, insideEvery}
 use Rattle.theory.specs.Walk.{walk-size}
 use Rattle.table.specs.Kinds.{childrenOf}

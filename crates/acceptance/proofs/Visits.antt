@@ -1,25 +1,19 @@
 -- A walk from a place: the record's own visit, then those of its children.
 -- Assumes nothing.
-use mathlib.Core.Path.{_≡_, refl, sym, ap, _∙_}
-use mathlib.Core.Bool.{Bool, true, false, not, _&&_, _||_}
-use mathlib.Core.List.{List, [], _∷_, _++_}
-use Prim.Native.Nat.{ℕ, zero, suc, _+_, _≤_}
-use native.Mathlib.Omega.{arith}
+use mathlib.Core.Path.{_≡_}
+use mathlib.Core.Bool.{not, _&&_, _||_}
+use mathlib.Core.List.{List, _∷_}
+use Prim.Native.Nat.{ℕ, _+_}
 use lib.Dec.{eqb, leb}
-use borrow.Author.Tests.{eq-eqb, ne-eqb}
-use Rattle.rules.specs.Stages.{if_then_else_}
+use borrow.Author.Tests.{ne-eqb}
 use Rattle.rules.specs.Limits.{mostLoops}
 use Rattle.rules.specs.Tree.{Tree, headOf, assign, increase, copy, subtract, compare, divide, output, input, internal, and, or}
-use Rattle.rules.specs.Table.{kindAt, secondAt, recordsOf}
-use Rattle.rules.specs.Check.{Around, Visit, mayEnd, walk, hits}
+use Rattle.rules.specs.Table.{kindAt}
+use Rattle.rules.specs.Check.{Around, Visit, mayEnd, walk}
 use Rattle.table.specs.Kinds.{childrenOf}
 use Rattle.table.specs.Places.{Place, treeOf, Node, aNop, anAct, anAwait, anEmit, aBreak, anIf, aSeq, aLoop, anEvery, aPar, aFin}
-use Rattle.table.proofs.Places.{children-most}
 use Rattle.table.proofs.Trees.{node-at}
-use Rattle.acceptance.specs.Places.{firstOf, Inside}
-use Rattle.acceptance.specs.Walks.{inner, visitAt, belowAt, failsOf, first}
-use Rattle.acceptance.specs.declared.Found.{Found}
-use Rattle.acceptance.specs.declared.Found.the-variants.{At, Nothing}
+use Rattle.acceptance.specs.Walks.{inner, visitAt, belowAt, failsOf}
 
 -- ---- the walk from a place
 

@@ -13,7 +13,7 @@ mod records;
 mod walks;
 
 // The lowest place that fails a stage.
-pub enum Found {
+enum Found {
     At(usize),
     Nothing,
 }

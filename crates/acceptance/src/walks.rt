@@ -19,7 +19,8 @@ pub fn may_break(table: &[u8], i: usize) -> bool
     if children == 0 {
         return table::kind_at(table, i) == 11;
     }
-    if children == 1 {
+    // A loop keeps its own; under an every or a fin there is none.
+    if children < 2 {
         return false;
     }
     if may_break(table, i + 1) {

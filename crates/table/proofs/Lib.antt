@@ -2,3 +2,4 @@
 pub mod Counting
 pub mod Places
 pub mod Trees
+pub mod Passed

@@ -1,15 +1,14 @@
 -- A place of a table whose shape is right: its kind, its span, and its children's places.
 -- Assumes nothing.
-use mathlib.Core.Path.{_≡_, refl, sym, ap, subst}
+use mathlib.Core.Path.{_≡_, refl, sym, subst}
 use mathlib.Core.Bool.{Bool, true, false, not, _&&_, _||_}
 use mathlib.Core.List.{List}
-use mathlib.Core.Logic.{⊎-elim}
 use Prim.Native.Nat.{ℕ, zero, suc, _+_, _≤_, _<_}
 use native.Mathlib.Omega.{arith}
 use lib.Dec.{T, eqb, ltb, leb, eqb→eq, ltb→lt, lit≤}
 use lib.ListN.{List·getD-eq-default}
 use borrow.Author.Tests.{ltb-false}
-use Rattle.rules.specs.Table.{Children, leaf, one, two, wrong, kinds, over19, kindAt, spanAt, secondAt, rowAt, recordsOf, spanFits, shapeRight}
+use Rattle.rules.specs.Table.{Children, leaf, one, two, wrong, kinds, over19, kindAt, spanAt, secondAt, rowAt, recordsOf, spanFits}
 use Rattle.theory.specs.Logic.{both-left, both-right}
 use Rattle.table.specs.Kinds.{arity, childrenOf}
 use Rattle.table.specs.Places.{Place, SpanFor}

@@ -1,19 +1,13 @@
 -- `check` gives document 01's verdict on every table.
 -- Assumes nothing.
-use mathlib.Core.Path.{_≡_, sym, _∙_}
+use mathlib.Core.Path.{sym, _∙_}
 use native.Mathlib.Omega.{arith}
 use borrow.Author.Needs.{needs}
 use Rattle.acceptance.proofs.Firsts.{found-inside}
-use Rattle.acceptance.proofs.Refusals.{refused-1, refused-2, refused-3, passed-3, sized, shaped}
+use Rattle.acceptance.proofs.Refusals.{refused-1, refused-2, refused-3, passed-3, good-size, shaped}
 use borrow.Author.Needs.{needs}
 use Rattle.acceptance.proofs.check.Statement.{statement}
 use Rattle.acceptance.proofs.check.Tie as tie
-use Rattle.acceptance.proofs.check.Reads as reads
-use Rattle.acceptance.proofs.check.Lts as lts
-use Rattle.acceptance.proofs.check_nodes.Reads as check-nodes-reads
-use Rattle.acceptance.proofs.records.first_record.Reads as first-record-reads
-use Rattle.acceptance.proofs.records.good_length.Reads as good-length-reads
-use Rattle.acceptance.proofs.refused.Reads as refused-reads
 
 good-length-requires : tie.Need-good-length-requires
 good-length-requires c κs = search needs
@@ -31,7 +25,7 @@ enum-known-place : tie.Need-enum-known-place
 enum-known-place c = search needs
 
 refused-requires-2 : tie.Need-refused-requires-2
-refused-requires-2 c κs = omega (arith, (sized (c .before .before .before .before .before .before .before .args .table .now) (c .before .before .before .before .before .good-length .ensures) (c .before .before .before .before .if1 .left)) .most, found-inside (c .before .before .before .before .before .before .before .args .table .now) (c .before .place .given .1) (c .before .before .before .first-record .ensures .1))
+refused-requires-2 c κs = omega (arith, (good-size (c .before .before .before .before .before .before .before .args .table .now) (c .before .before .before .before .before .good-length .ensures) (c .before .before .before .before .if1 .left)) .most, found-inside (c .before .before .before .before .before .before .before .args .table .now) (c .before .place .given .1) (c .before .before .before .first-record .ensures .1))
 
 returns-2 : tie.Need-returns-2
 returns-2 c = c .refused2 .ensures ∙ sym (refused-2 (c .before .before .before .before .before .before .before .before .args .table .now) (c .before .before .before .before .before .before .good-length .ensures) (c .before .before .before .before .before .if1 .left) (c .before .before .before .before .first-record .ensures .0) (c .before .before .place .given .1))
@@ -46,7 +40,7 @@ enum-known-place-2 : tie.Need-enum-known-place-2
 enum-known-place-2 c = search needs
 
 refused-requires-3 : tie.Need-refused-requires-3
-refused-requires-3 c κs = omega (arith, (sized (c .before .before .before .before .before .before .before .before .before .before .args .table .now) (c .before .before .before .before .before .before .before .before .good-length .ensures) (c .before .before .before .before .before .before .before .if1 .left)) .most, found-inside (c .before .before .before .before .before .before .before .before .before .before .args .table .now) (c .before .place2 .given .1) (c .before .before .before .first-record2 .ensures .1))
+refused-requires-3 c κs = omega (arith, (good-size (c .before .before .before .before .before .before .before .before .before .before .args .table .now) (c .before .before .before .before .before .before .before .before .good-length .ensures) (c .before .before .before .before .before .before .before .if1 .left)) .most, found-inside (c .before .before .before .before .before .before .before .before .before .before .args .table .now) (c .before .place2 .given .1) (c .before .before .before .first-record2 .ensures .1))
 
 returns-3 : tie.Need-returns-3
 returns-3 c = c .refused3 .ensures ∙ sym (refused-3 (c .before .before .before .before .before .before .before .before .before .before .before .args .table .now) (c .before .before .before .before .before .before .before .before .before .good-length .ensures) (c .before .before .before .before .before .before .before .before .if1 .left) (c .before .before .before .before .before .before .before .first-record .ensures .0) (c .before .before .before .before .before .enum-told .given .1) (c .before .before .before .before .first-record2 .ensures .0) (c .before .before .place2 .given .1))
@@ -55,7 +49,7 @@ enum-told-2 : tie.Need-enum-told-2
 enum-told-2 c = search needs
 
 check-nodes-requires : tie.Need-check-nodes-requires
-check-nodes-requires c κs = (shaped (c .before .before .before .before .before .before .before .before .before .args .table .now) (sized (c .before .before .before .before .before .before .before .before .before .args .table .now) (c .before .before .before .before .before .before .before .good-length .ensures) (c .before .before .before .before .before .before .if1 .left)) (c .before .before .before .before .before .first-record .ensures .0) (c .before .before .before .enum-told .given .1), (sized (c .before .before .before .before .before .before .before .before .before .args .table .now) (c .before .before .before .before .before .before .before .good-length .ensures) (c .before .before .before .before .before .before .if1 .left)) .most)
+check-nodes-requires c κs = (shaped (c .before .before .before .before .before .before .before .before .before .args .table .now) (good-size (c .before .before .before .before .before .before .before .before .before .args .table .now) (c .before .before .before .before .before .before .before .good-length .ensures) (c .before .before .before .before .before .before .if1 .left)) (c .before .before .before .before .before .first-record .ensures .0) (c .before .before .before .enum-told .given .1), (good-size (c .before .before .before .before .before .before .before .before .before .args .table .now) (c .before .before .before .before .before .before .before .good-length .ensures) (c .before .before .before .before .before .before .if1 .left)) .most)
 
 returns-4 : tie.Need-returns-4
 returns-4 c = c .check-nodes .ensures ∙ sym (passed-3 (c .before .before .before .before .before .before .before .before .before .before .args .table .now) (c .before .before .before .before .before .before .before .before .good-length .ensures) (c .before .before .before .before .before .before .before .if1 .left) (c .before .before .before .before .before .before .first-record .ensures .0) (c .before .before .before .before .enum-told .given .1) (c .before .before .before .first-record2 .ensures .0) (c .before .enum-told2 .given .1))

@@ -1,6 +1,6 @@
 -- `check_nodes` gives the verdict of stages 4 to 7.
 -- Assumes nothing.
-use mathlib.Core.Path.{_≡_, sym, ap, _∙_}
+use mathlib.Core.Path.{sym, ap, _∙_}
 use native.Mathlib.Omega.{arith}
 use borrow.Author.Needs.{needs}
 use Rattle.rules.specs.Check.{accepted}
@@ -9,11 +9,6 @@ use Rattle.acceptance.proofs.Refusals.{refused-4, refused-5, refused-6,
 use borrow.Author.Needs.{needs}
 use Rattle.acceptance.proofs.check_nodes.Statement.{statement}
 use Rattle.acceptance.proofs.check_nodes.Tie as tie
-use Rattle.acceptance.proofs.check_nodes.Reads as reads
-use Rattle.acceptance.proofs.check_nodes.Lts as lts
-use Rattle.acceptance.proofs.counts.announced.Reads as announced-reads
-use Rattle.acceptance.proofs.refused.Reads as refused-reads
-use Rattle.acceptance.proofs.walks.first_of_program.Reads as first-of-program-reads
 
 first-of-program-requires : tie.Need-first-of-program-requires
 first-of-program-requires c κs = c .before .pre .0

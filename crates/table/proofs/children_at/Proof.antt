@@ -1,6 +1,6 @@
 -- `children_at` gives the number of children of the record at a place.
 -- Assumes nothing.
-use mathlib.Core.Path.{_≡_, ap, _∙_}
+use mathlib.Core.Path.{ap, _∙_}
 use borrow.Author.Needs.{needs}
 use Rattle.table.specs.Kinds.{childrenOf}
 use Rattle.table.proofs.children_at.Statement.{statement}

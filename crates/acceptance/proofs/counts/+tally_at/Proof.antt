@@ -1,9 +1,9 @@
 -- `tally_at` counts the construct at a place and all below it; the measure is the span.
 -- Assumes nothing.
-use mathlib.Core.Path.{_≡_, sym, ap, _∙_}
+use mathlib.Core.Path.{sym, ap, _∙_}
 use Prim.Native.Nat.{_+_}
 use native.Mathlib.Omega.{arith}
-use Rattle.rules.specs.Table.{spanAt, kindAt}
+use Rattle.rules.specs.Table.{spanAt}
 use Rattle.table.specs.Kinds.{childrenOf}
 use Rattle.table.proofs.Places.{down, next, down-place}
 use Rattle.acceptance.specs.Walks.{aroundOf}

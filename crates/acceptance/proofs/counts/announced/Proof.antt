@@ -9,14 +9,6 @@ use Rattle.acceptance.proofs.Announcing.{counted, emitted-fits, level-f
 use borrow.Author.Needs.{needs}
 use Rattle.acceptance.proofs.counts.announced.Statement.{statement}
 use Rattle.acceptance.proofs.counts.announced.Tie as tie
-use Rattle.acceptance.proofs.counts.announced.Reads as reads
-use Rattle.acceptance.proofs.counts.announced.Lts as lts
-use Rattle.acceptance.proofs.counts.tally_at.Reads as tally-at-reads
-use Rattle.acceptance.proofs.walks.Around.nothing.Reads as nothing-reads
-use Rattle.rules.proofs.limits.Limits.emitted.Reads as emitted-reads
-use Rattle.rules.proofs.limits.Limits.level.Reads as level-reads
-use Rattle.rules.proofs.limits.Limits.outputs.Reads as outputs-reads
-use Rattle.rules.proofs.limits.Limits.steps.Reads as steps-reads
 
 cast-records : tie.Need-cast-records
 cast-records c = search needs

@@ -11,9 +11,6 @@ use Rattle.acceptance.specs.Records.{rightAt}
 use Rattle.acceptance.proofs.OneRecord.{all-left, passes-here, fails-here, none-left}
 use Rattle.acceptance.proofs.records.first_record.Statement.{statement}
 use Rattle.acceptance.proofs.records.first_record.Tie as tie
-use Rattle.acceptance.proofs.records.first_record.Reads as reads
-use Rattle.acceptance.proofs.records.first_record.Lts as lts
-use Rattle.acceptance.proofs.records.record_right.Reads as record-right-reads
 
 abbrev Inv-loop : tie.InvT-loop
 Inv-loop table stage records i₀ i = (i ≤ recordsOf table) × (firstOf (failing (rightAt stage table) 0 (recordsOf table)) ≡ firstOf (failing (rightAt stage table) i (recordsOf table - i)))

@@ -4,8 +4,6 @@ use mathlib.Core.Path.{sym}
 use borrow.Author.Tests.{eq-eqb, ne-eqb}
 use Rattle.acceptance.proofs.records.good_length.Statement.{statement}
 use Rattle.acceptance.proofs.records.good_length.Tie as tie
-use Rattle.acceptance.proofs.records.good_length.Reads as reads
-use Rattle.acceptance.proofs.records.good_length.Lts as lts
 
 returns : tie.Need-returns
 returns c = sym (rw (eq-eqb _ _ (c .if1 .taken)))

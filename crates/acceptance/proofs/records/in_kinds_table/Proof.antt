@@ -5,14 +5,6 @@ use Rattle.acceptance.proofs.OneRecord.{name-wrong, number-says}
 use borrow.Author.Needs.{needs}
 use Rattle.acceptance.proofs.records.in_kinds_table.Statement.{statement}
 use Rattle.acceptance.proofs.records.in_kinds_table.Tie as tie
-use Rattle.acceptance.proofs.records.in_kinds_table.Reads as reads
-use Rattle.acceptance.proofs.records.in_kinds_table.Lts as lts
-use Rattle.acceptance.proofs.records.in_range.Reads as in-range-reads
-use Rattle.acceptance.proofs.records.name_range.Reads as name-range-reads
-use Rattle.acceptance.proofs.records.number_range.Reads as number-range-reads
-use Rattle.table.proofs.bits_at.Reads as bits-at-reads
-use Rattle.table.proofs.kind_at.Reads as kind-at-reads
-use Rattle.table.proofs.name_at.Reads as name-at-reads
 
 kind-at-requires : tie.Need-kind-at-requires
 kind-at-requires c κs = search needs

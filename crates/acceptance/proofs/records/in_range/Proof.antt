@@ -1,16 +1,11 @@
 -- `in_range` is the range of its number.
 -- Assumes nothing.
-use mathlib.Core.Path.{_≡_, sym}
+use mathlib.Core.Path.{sym}
 use native.Mathlib.Omega.{arith}
 use borrow.Author.Tests.{lt-leb, le-leb}
-use Rattle.rules.specs.Table.{oneTo63}
-use Rattle.acceptance.specs.Records.{rangeOf}
 use Rattle.acceptance.proofs.OneRecord.{range-rest}
-use borrow.Author.Needs.{needs}
 use Rattle.acceptance.proofs.records.in_range.Statement.{statement}
 use Rattle.acceptance.proofs.records.in_range.Tie as tie
-use Rattle.acceptance.proofs.records.in_range.Reads as reads
-use Rattle.acceptance.proofs.records.in_range.Lts as lts
 
 returns : tie.Need-returns
 returns c = sym (rw (c .if1 .taken))

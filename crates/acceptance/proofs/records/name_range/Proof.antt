@@ -1,14 +1,12 @@
 -- `name_range` gives the kinds table's range of a name.
 -- Assumes nothing.
-use mathlib.Core.Path.{_≡_, sym, ap}
+use mathlib.Core.Path.{sym, ap}
 use native.Mathlib.Omega.{arith}
 use Rattle.rules.specs.Table.{Kind}
 use Rattle.acceptance.proofs.OneRecord.{names-right, no-row}
 use borrow.Author.Needs.{needs}
 use Rattle.acceptance.proofs.records.name_range.Statement.{statement}
 use Rattle.acceptance.proofs.records.name_range.Tie as tie
-use Rattle.acceptance.proofs.records.name_range.Reads as reads
-use Rattle.acceptance.proofs.records.name_range.Lts as lts
 
 array-read-result : tie.Need-array-read-result
 array-read-result c = search needs

@@ -1,14 +1,12 @@
 -- `number_range` gives the kinds table's range of a number.
 -- Assumes nothing.
-use mathlib.Core.Path.{_≡_, sym, ap}
+use mathlib.Core.Path.{sym, ap}
 use native.Mathlib.Omega.{arith}
 use Rattle.rules.specs.Table.{Kind}
 use Rattle.acceptance.proofs.OneRecord.{numbers-right, no-row}
 use borrow.Author.Needs.{needs}
 use Rattle.acceptance.proofs.records.number_range.Statement.{statement}
 use Rattle.acceptance.proofs.records.number_range.Tie as tie
-use Rattle.acceptance.proofs.records.number_range.Reads as reads
-use Rattle.acceptance.proofs.records.number_range.Lts as lts
 
 array-read-result : tie.Need-array-read-result
 array-read-result c = search needs

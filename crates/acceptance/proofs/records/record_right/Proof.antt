@@ -5,10 +5,6 @@ use borrow.Author.Tests.{eq-eqb, ne-eqb}
 use borrow.Author.Needs.{needs}
 use Rattle.acceptance.proofs.records.record_right.Statement.{statement}
 use Rattle.acceptance.proofs.records.record_right.Tie as tie
-use Rattle.acceptance.proofs.records.record_right.Reads as reads
-use Rattle.acceptance.proofs.records.record_right.Lts as lts
-use Rattle.acceptance.proofs.records.in_kinds_table.Reads as in-kinds-table-reads
-use Rattle.acceptance.proofs.records.shape_right.Reads as shape-right-reads
 
 shape-right-requires : tie.Need-shape-right-requires
 shape-right-requires c κs = search needs

@@ -5,10 +5,6 @@ use Rattle.acceptance.proofs.OneRecord.{shape-wrong, shape-later, shape
 use borrow.Author.Needs.{needs}
 use Rattle.acceptance.proofs.records.shape_right.Statement.{statement}
 use Rattle.acceptance.proofs.records.shape_right.Tie as tie
-use Rattle.acceptance.proofs.records.shape_right.Reads as reads
-use Rattle.acceptance.proofs.records.shape_right.Lts as lts
-use Rattle.acceptance.proofs.records.span_fits.Reads as span-fits-reads
-use Rattle.table.proofs.span_at.Reads as span-at-reads
 
 span-fits-requires : tie.Need-span-fits-requires
 span-fits-requires c κs = search needs

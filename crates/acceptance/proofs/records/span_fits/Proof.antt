@@ -5,10 +5,6 @@ use Rattle.acceptance.proofs.OneRecord.{fits-leaf, fits-wrong, fits-sho
 use borrow.Author.Needs.{needs}
 use Rattle.acceptance.proofs.records.span_fits.Statement.{statement}
 use Rattle.acceptance.proofs.records.span_fits.Tie as tie
-use Rattle.acceptance.proofs.records.span_fits.Reads as reads
-use Rattle.acceptance.proofs.records.span_fits.Lts as lts
-use Rattle.table.proofs.children_at.Reads as children-at-reads
-use Rattle.table.proofs.span_at.Reads as span-at-reads
 
 children-at-requires : tie.Need-children-at-requires
 children-at-requires c κs = search needs

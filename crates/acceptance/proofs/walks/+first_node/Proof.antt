@@ -1,6 +1,6 @@
 -- `first_node` gives the lowest place that fails a stage, within the construct at a place; the measure is the span.
 -- Assumes nothing.
-use mathlib.Core.Path.{_≡_, sym, _∙_}
+use mathlib.Core.Path.{sym, _∙_}
 use native.Mathlib.Omega.{arith}
 use Rattle.rules.specs.Table.{spanAt}
 use Rattle.table.proofs.Places.{down, next, down-place}

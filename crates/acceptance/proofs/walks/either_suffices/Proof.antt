@@ -4,8 +4,6 @@ use mathlib.Core.Path.{sym}
 use borrow.Author.Tests.{eq-eqb, ne-eqb}
 use Rattle.acceptance.proofs.walks.either_suffices.Statement.{statement}
 use Rattle.acceptance.proofs.walks.either_suffices.Tie as tie
-use Rattle.acceptance.proofs.walks.either_suffices.Reads as reads
-use Rattle.acceptance.proofs.walks.either_suffices.Lts as lts
 
 returns : tie.Need-returns
 returns c = sym (rw (eq-eqb _ _ (c .if1 .taken)))

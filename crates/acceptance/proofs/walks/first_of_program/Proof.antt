@@ -8,10 +8,6 @@ use Rattle.acceptance.proofs.Announcing.{whole-walk}
 use borrow.Author.Needs.{needs}
 use Rattle.acceptance.proofs.walks.first_of_program.Statement.{statement}
 use Rattle.acceptance.proofs.walks.first_of_program.Tie as tie
-use Rattle.acceptance.proofs.walks.first_of_program.Reads as reads
-use Rattle.acceptance.proofs.walks.first_of_program.Lts as lts
-use Rattle.acceptance.proofs.walks.Around.nothing.Reads as nothing-reads
-use Rattle.acceptance.proofs.walks.first_node.Reads as first-node-reads
 
 nothing-requires : tie.Need-nothing-requires
 nothing-requires c κs = search needs

@@ -4,8 +4,6 @@ use mathlib.Core.Path.{sym}
 use borrow.Author.Tests.{eq-eqb, ne-eqb, le-leb, lt-leb}
 use Rattle.acceptance.proofs.walks.is_plain.Statement.{statement}
 use Rattle.acceptance.proofs.walks.is_plain.Tie as tie
-use Rattle.acceptance.proofs.walks.is_plain.Reads as reads
-use Rattle.acceptance.proofs.walks.is_plain.Lts as lts
 
 returns : tie.Need-returns
 returns c = sym (rw (le-leb _ _ (c .if1 .taken)))

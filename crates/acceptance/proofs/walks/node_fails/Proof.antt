@@ -1,6 +1,6 @@
 -- `node_fails` is a stage from 4 to 7 at one node.
 -- Assumes nothing.
-use mathlib.Core.Path.{_≡_, sym, _∙_}
+use mathlib.Core.Path.{sym, _∙_}
 use native.Mathlib.Omega.{arith}
 use borrow.Author.Tests.{eq-eqb, ne-eqb}
 use Rattle.table.proofs.Places.{down-place, children-from}
@@ -10,12 +10,6 @@ use Rattle.acceptance.proofs.Visits.{fails-4, fails-5, fails-6, fails-7
 use borrow.Author.Needs.{needs}
 use Rattle.acceptance.proofs.walks.node_fails.Statement.{statement}
 use Rattle.acceptance.proofs.walks.node_fails.Tie as tie
-use Rattle.acceptance.proofs.walks.node_fails.Reads as reads
-use Rattle.acceptance.proofs.walks.node_fails.Lts as lts
-use Rattle.acceptance.proofs.walks.Around.confined.Reads as confined-reads
-use Rattle.acceptance.proofs.walks.is_plain.Reads as is-plain-reads
-use Rattle.acceptance.proofs.walks.may_end.Reads as may-end-reads
-use Rattle.table.proofs.kind_at.Reads as kind-at-reads
 
 kind-at-requires : tie.Need-kind-at-requires
 kind-at-requires c κs = c .before .pre .inside

@@ -3,8 +3,6 @@
 use mathlib.Core.Path.{sym}
 use Rattle.acceptance.proofs.counts.Tally.output.Statement.{statement}
 use Rattle.acceptance.proofs.counts.Tally.output.Tie as tie
-use Rattle.acceptance.proofs.counts.Tally.output.Reads as reads
-use Rattle.acceptance.proofs.counts.Tally.output.Lts as lts
 
 returns : tie.Need-returns
 returns c = sym (rw (c .if1 .taken))

@@ -6,9 +6,6 @@ use Rattle.acceptance.specs.Counts.{ownTally}
 use borrow.Author.Needs.{needs}
 use Rattle.acceptance.proofs.counts.Tally.own.Statement.{statement}
 use Rattle.acceptance.proofs.counts.Tally.own.Tie as tie
-use Rattle.acceptance.proofs.counts.Tally.own.Reads as reads
-use Rattle.acceptance.proofs.counts.Tally.own.Lts as lts
-use Rattle.acceptance.proofs.counts.Tally.output.Reads as output-reads
 
 returns : tie.Need-returns
 unfolding ownTally

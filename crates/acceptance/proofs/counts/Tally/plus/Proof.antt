@@ -3,9 +3,6 @@
 use borrow.Author.Needs.{needs}
 use Rattle.acceptance.proofs.counts.Tally.plus.Statement.{statement}
 use Rattle.acceptance.proofs.counts.Tally.plus.Tie as tie
-use Rattle.acceptance.proofs.counts.Tally.plus.Reads as reads
-use Rattle.acceptance.proofs.counts.Tally.plus.Lts as lts
-use Rattle.acceptance.proofs.counts.higher.Reads as higher-reads
 
 higher-requires : tie.Need-higher-requires
 higher-requires c κs = search needs

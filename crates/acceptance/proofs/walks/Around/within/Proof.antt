@@ -1,6 +1,6 @@
 -- `within` is what stands around the children.
 -- Assumes nothing.
-use mathlib.Core.Path.{_≡_, sym}
+use mathlib.Core.Path.{sym}
 use mathlib.Core.Logic.{⊎-elim}
 use native.Mathlib.Numerals.{add-one}
 use borrow.Author.Tests.{eq-eqb, ne-eqb}
@@ -8,8 +8,6 @@ use Rattle.acceptance.specs.Walks.{inner}
 use borrow.Author.Needs.{needs}
 use Rattle.acceptance.proofs.walks.Around.within.Statement.{statement}
 use Rattle.acceptance.proofs.walks.Around.within.Tie as tie
-use Rattle.acceptance.proofs.walks.Around.within.Reads as reads
-use Rattle.acceptance.proofs.walks.Around.within.Lts as lts
 
 add-t7 : tie.Need-add-t7
 add-t7 c = search needs
