@@ -1,0 +1,138 @@
+/* Performs one row of the benchmark with one implementation a given number of
+ * times, for a tool that counts instructions.
+ * Usage: bench ROW WORK IMPLEMENTATION TIMES
+ *   ROW             check, react, list, query; show writes the outputs
+ *   WORK            a name from work.h
+ *   IMPLEMENTATION  quick; machine, for the scenario; product, where compiled
+ *                   with -DWITH_PRODUCT
+ * What a run costs beside the calls is the same for any TIMES, so that (2n
+ * calls - n calls) / n is the cost of one call and of the loop around it. */
+#include <stdio.h>
+#include <stdlib.h>
+#include <string.h>
+
+#include "quick.h"
+#include "quick_parts.h"
+#include "work.h"
+
+#ifdef WITH_PRODUCT
+#include "landarbeso.h"
+#endif
+
+static uint8_t out[OUT_BYTES];
+static struct work work;
+
+static void show_outputs(size_t outputs)
+{
+    for (size_t i = 0; i < outputs; i++) {
+        uint64_t output = eight_bytes(out + 8 * i);
+        printf("out %u %d\n", kind_of(output), (int32_t)number_of(output));
+    }
+}
+
+#define CALL(name) quick_##name
+#define ROW(name) quick_row_##name
+#include "rows.inc"
+
+#ifdef WITH_PRODUCT
+#define CALL(name) landarbeso_##name
+#define ROW(name) product_row_##name
+#include "rows.inc"
+#endif
+
+static struct machine machine;
+
+static void machine_row_react(const struct work *w, uint32_t n)
+{
+    uint32_t next = 0;
+    for (; n > 0; n--) {
+        uint64_t event = eight_bytes(w->events + 8 * next);
+        if (machine_react(&machine, kind_of(event), (int32_t)number_of(event),
+                          out, OUT_BYTES) < 0)
+            exit(1);
+        next = next + 1 < WORK_EVENTS ? next + 1 : 0;
+    }
+}
+
+static void machine_row_list(const struct work *w, uint32_t n)
+{
+    for (; n > 0; n--)
+        if (machine_run_list(&machine, w->events, sizeof w->events, out,
+                             OUT_BYTES) == 0)
+            exit(1);
+}
+
+static void machine_row_show(const struct work *w)
+{
+    show_outputs(machine_run_list(&machine, w->events, sizeof w->events, out,
+                                  OUT_BYTES));
+}
+
+/* The rows of one implementation; NULL where it has none of that name. */
+struct rows {
+    void (*check)(const struct work *, uint32_t);
+    void (*react)(const struct work *, uint32_t);
+    void (*list)(const struct work *, uint32_t);
+    void (*query)(const struct work *, uint32_t);
+    void (*show)(const struct work *);
+};
+
+static int prepare(const char *implementation, struct rows *rows)
+{
+    static const struct rows quick = {quick_row_check, quick_row_react,
+                                      quick_row_list, quick_row_query,
+                                      quick_row_show};
+    static const struct rows by_hand = {NULL, machine_row_react,
+                                        machine_row_list, NULL,
+                                        machine_row_show};
+#ifdef WITH_PRODUCT
+    static const struct rows product = {product_row_check, product_row_react,
+                                        product_row_list, product_row_query,
+                                        product_row_show};
+    if (strcmp(implementation, "product") == 0) {
+        product_row_make_rest(&work);
+        *rows = product;
+        return 1;
+    }
+#endif
+    if (strcmp(implementation, "quick") == 0) {
+        quick_row_make_rest(&work);
+        *rows = quick;
+        return 1;
+    }
+    machine = machine_start();
+    *rows = by_hand;
+    return strcmp(implementation, "machine") == 0;
+}
+
+static int perform(const struct rows *rows, const char *row, uint32_t n)
+{
+    void (*wanted)(const struct work *, uint32_t) = NULL;
+    if (strcmp(row, "show") == 0) {
+        rows->show(&work);
+        return 1;
+    }
+    if (strcmp(row, "check") == 0)
+        wanted = rows->check;
+    else if (strcmp(row, "react") == 0)
+        wanted = rows->react;
+    else if (strcmp(row, "list") == 0)
+        wanted = rows->list;
+    else if (strcmp(row, "query") == 0)
+        wanted = rows->query;
+    if (wanted == NULL)
+        return 0;
+    wanted(&work, n);
+    return 1;
+}
+
+int main(int argc, char **argv)
+{
+    struct rows rows;
+    if (argc != 5 || !make_work(&work, argv[2]) || !prepare(argv[3], &rows) ||
+        !perform(&rows, argv[1], (uint32_t)strtoul(argv[4], NULL, 10))) {
+        fprintf(stderr, "bench: no such row, work or implementation\n");
+        return 2;
+    }
+    return 0;
+}

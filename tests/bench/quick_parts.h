@@ -1,0 +1,161 @@
+/* What the files of the quick interpreter share. */
+#ifndef QUICK_PARTS_H
+#define QUICK_PARTS_H
+
+#include <stddef.h>
+#include <stdint.h>
+#include <string.h>
+
+enum {
+    RECORD_BYTES = 8,
+    MOST_RECORDS = 256,
+    MOST_LOOPS = 8,
+    VARIABLES = 64,
+    LAST_NAME = 63,
+    MOST_LIST_BYTES = 65536
+};
+
+enum kind {
+    NOTHING, SET, ADD, COPY, SUBTRACT, LESS, DIVIDE, OUTPUT, AWAIT_INPUT,
+    AWAIT_INTERNAL, EMIT, BREAK, IF, SEQUENCE, LOOP, EVERY_INPUT,
+    EVERY_INTERNAL, AND, OR, FIN, KINDS
+};
+
+/* A set of kinds, and whether a kind is in it. */
+#define KIND_BIT(kind) (1u << (kind))
+#define IN_KINDS(set, kind) (((set) >> (kind)) & 1u)
+
+#define WAITING_KINDS                                              \
+    (KIND_BIT(AWAIT_INPUT) | KIND_BIT(AWAIT_INTERNAL) |            \
+     KIND_BIT(EVERY_INPUT) | KIND_BIT(EVERY_INTERNAL) | KIND_BIT(FIN))
+#define PLAIN_KINDS (0xffu | KIND_BIT(IF) | KIND_BIT(SEQUENCE))
+
+/* Eight bytes as one number; the machine is little-endian. */
+static inline uint64_t eight_bytes(const uint8_t *bytes)
+{
+    uint64_t eight;
+    memcpy(&eight, bytes, sizeof eight);
+    return eight;
+}
+
+static inline uint64_t record_at(const uint8_t *table, size_t place)
+{
+    return eight_bytes(table + place * RECORD_BYTES);
+}
+
+static inline uint32_t kind_of(uint64_t record)
+{
+    return (uint8_t)record;
+}
+
+static inline uint32_t name_of(uint64_t record)
+{
+    return (uint8_t)(record >> 8);
+}
+
+static inline uint32_t span_of(uint64_t record)
+{
+    return (uint16_t)(record >> 16);
+}
+
+static inline uint32_t number_of(uint64_t record)
+{
+    return (uint32_t)(record >> 32);
+}
+
+static inline uint32_t kind_at(const uint8_t *table, size_t place)
+{
+    return table[place * RECORD_BYTES];
+}
+
+static inline uint32_t span_at(const uint8_t *table, size_t place)
+{
+    uint16_t span;
+    memcpy(&span, table + place * RECORD_BYTES + 2, sizeof span);
+    return span;
+}
+
+/* Only in a table that has passed stage 2. */
+static inline size_t second_child(const uint8_t *table, size_t place)
+{
+    return place + 1 + span_at(table, place + 1);
+}
+
+/* What follows when a construct has become @nop: one of these in the high
+ * byte, a place in the low byte. */
+enum after {
+    THEN = 0,     /* the left of a sequence: on at the sequence's right */
+    AGAIN,        /* the body of the loop at the place */
+    LEFT_OF_AND,  /* one side of the and, the or at the place */
+    RIGHT_OF_AND,
+    LEFT_OF_OR,
+    RIGHT_OF_OR,
+    EVERY_BODY,   /* the body of the every at the place */
+    FIN_BODY,     /* the body of a fin, run by a clear */
+    PROGRAM       /* the program itself */
+};
+
+/* What the check counts: N, E, D, P, Q of the announced numbers. */
+struct counts {
+    size_t records;
+    uint32_t emits, deepest, outside, inside;
+};
+
+/* What a reaction needs to know of a program beside its records.  Places that
+ * wait for one event form a chain of numbers place + 1 that ends with 0;
+ * row 0 is of input events, row 1 of internal ones. */
+struct plan {
+    uint16_t after[MOST_RECORDS];
+    uint16_t first_waiter[2][LAST_NAME + 1];
+    uint16_t next_waiter[MOST_RECORDS + 1];
+};
+
+struct refusal {
+    uint32_t number, place;
+};
+
+/* quick_check.c: stages 1 to 7 in one pass.  1 where the table is accepted;
+ * otherwise the contents of counts and plan mean nothing. */
+int quick_accepts(const uint8_t *table, size_t bytes, struct counts *counts);
+int quick_plans(const uint8_t *table, size_t bytes, struct counts *counts,
+                struct plan *plan);
+
+/* quick_refuse.c: which stage fails, and where, once one is known to. */
+struct refusal quick_why_table(const uint8_t *table, size_t bytes);
+struct refusal quick_why_marks(const uint8_t *table, size_t records,
+                               const uint8_t *marks);
+
+/* A reaction's state of a record.  At rest there are BOTH and ONE only. */
+enum state {
+    IDLE,
+    BOTH,    /* an @and or @or */
+    ONE,     /* an and of which one side is left */
+    WOKEN,   /* an await or every that was woken and has not yet gone on */
+    PENDING, /* the right of an and or or: @canrun before it */
+    RESUMED  /* an emit: @canrun in its place */
+};
+
+/* Entries of the stack of canruns.  A record is entered at most D + 1 times in
+ * a reaction, so that many are ever put on it, and one below them all. */
+enum { MOST_CANRUNS = MOST_RECORDS * (MOST_LOOPS + 1) + 1 };
+
+struct reaction {
+    const uint8_t *table;
+    uint8_t *marks;
+    int32_t *variables;
+    uint8_t *out; /* where the next output goes */
+    uint64_t steps;
+    uint32_t emitted, level, highest, finished;
+    uint32_t top;        /* of the canruns */
+    uint32_t some_woken; /* which words of the woken are not 0 */
+    uint64_t woken[MOST_RECORDS / 64];
+    uint8_t state[MOST_RECORDS];
+    struct plan plan;
+    uint32_t canruns[MOST_CANRUNS]; /* level * 256 + place */
+};
+
+/* quick_run.c: runs the program itself; runs one input event. */
+void quick_run_start(struct reaction *x);
+void quick_run_event(struct reaction *x, uint32_t event);
+
+#endif
