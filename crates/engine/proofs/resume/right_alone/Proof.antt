@@ -1,0 +1,69 @@
+use borrow.Author.Needs.{needs}
+use Rattle.engine.proofs.Fresh.{walk-memory}
+use borrow.Author.Needs.{needs}
+use Rattle.engine.proofs.resume.right_alone.Statement.{statement}
+use Rattle.engine.proofs.resume.right_alone.Tie as tie
+use Rattle.engine.proofs.resume.right_alone.Reads as reads
+use Rattle.engine.proofs.resume.right_alone.Lts as lts
+use Rattle.memory.proofs.tick.Reads as tick-reads
+
+enum-told : tie.Need-enum-told
+enum-told c = search needs
+
+enum-told-2 : tie.Need-enum-told-2
+enum-told-2 c = search needs
+
+tick-requires : tie.Need-tick-requires
+tick-requires c κs = search needs
+
+enum-told-3 : tie.Need-enum-told-3
+enum-told-3 c = search needs
+
+tick-requires-2 : tie.Need-tick-requires-2
+tick-requires-2 c κs = search needs
+
+enum-told-4 : tie.Need-enum-told-4
+enum-told-4 c = search needs
+
+tick-requires-3 : tie.Need-tick-requires-3
+tick-requires-3 c κs = search needs
+
+enum-known-how : tie.Need-enum-known-how
+enum-known-how c = search needs
+
+tick-requires-4 : tie.Need-tick-requires-4
+tick-requires-4 c κs = search needs
+
+returns : tie.Need-returns
+returns c = λ l v o. rw (c .enum-told .given .1)
+
+returns-2 : tie.Need-returns-2
+returns-2 c = λ l v o. rw (c .before .before .enum-told2 .given .1) (walk-memory (c .tick .ensures _ _))
+
+returns-3 : tie.Need-returns-3
+returns-3 c = λ l v o. rw (c .before .before .enum-told3 .given .1) (walk-memory (c .tick2 .ensures _ _))
+
+returns-4 : tie.Need-returns-4
+returns-4 c = λ l v o. rw (c .before .before .enum-told4 .given .1) (walk-memory (c .tick3 .ensures _ _))
+
+returns-5 : tie.Need-returns-5
+returns-5 c = λ l v o. rw (c .before .before .before .how .given .1) (walk-memory (c .tick4 .ensures _ _))
+
+pub right-alone-spec : {M : Type 1} → statement M
+right-alone-spec =
+    tie.close
+    (tie.spec
+    enum-told
+    enum-told-2
+    tick-requires
+    enum-told-3
+    tick-requires-2
+    enum-told-4
+    tick-requires-3
+    enum-known-how
+    tick-requires-4
+    returns
+    returns-2
+    returns-3
+    returns-4
+    returns-5)

@@ -1,0 +1,98 @@
+-- The walks of the theory over the arrays of the code, and what the contracts of the walks are said with.
+use mathlib.Core.Path.{_≡_}
+use mathlib.Core.Bool.{Bool, true, false, not, _||_, _&&_}
+use mathlib.Core.List.{List}
+use mathlib.Core.Logic.{_⊎_}
+use Prim.Native.Nat.{ℕ, _+_, _≤_}
+use lib.Dec.{eqb, ltb}
+use lib.IntN.{ℤ}
+use Rattle.rules.specs.Stages.{if_then_else_}
+use Rattle.rules.specs.Limits.{mostRecords}
+use Rattle.rules.specs.Tree.{Source, input, internal, Par, and, or, bySource, byPar}
+use Rattle.rules.specs.Table.{nameAt, numberAt, recordsOf}
+use Rattle.rules.specs.Step.{Event}
+use Rattle.theory.specs.State.{Ops, How, idle, ended, broke, waiting, ringing, Walk, walk, execLoop, rightAlone, resumeEmit}
+use Rattle.theory.specs.Round.{Round, round, inputEvent, internalEvent}
+use Rattle.table.specs.Places.{Place}
+use Rattle.memory.specs.Arrays.{Arrays, arrays, tick, acts, kindActs, isNonzero}
+use Rattle.engine.specs.declared.How as code
+use Rattle.engine.specs.declared.Rounded.{Rounded}
+use Rattle.engine.specs.declared.How.the-variants.{Idle, Ended, Broke, Waiting, Ringing}
+
+-- what the walks ask of a memory, of the arrays; an emit itself changes none of them
+abbrev pub arrayOps : Ops Arrays
+arrayOps = record { tick = tick; acts = acts; rings = λ e y a. a; test = λ v a. isNonzero a v }
+
+-- a place of a table that the states have room for
+pub record Spot (b : List ℕ) (i : ℕ) : Type 0 where
+  pub place : Place b i
+  pub small : recordsOf b ≤ mostRecords
+
+-- how a walk of the code ended
+abbrev pub howOf : code.How → How
+howOf Idle = idle
+howOf Ended = ended
+howOf Broke = broke
+howOf Waiting = waiting
+howOf (Ringing e) = ringing e
+
+-- ---- flags and kinds
+
+abbrev pub sourceOf : Bool → Source
+sourceOf true = input
+sourceOf false = internal
+
+abbrev pub eventFrom : Bool → ℕ → Event
+eventFrom b e = record { source = sourceOf b; name = e }
+
+abbrev pub parOf : Bool → Par
+parOf true = and
+parOf false = or
+
+abbrev pub parKind : Bool → ℕ
+parKind true = 17
+parKind false = 18
+
+-- an if or a sequence
+abbrev pub EitherKind : ℕ → Type 0
+EitherKind k = (k ≡ 12) ⊎ (k ≡ 13)
+
+-- ---- records by their kind
+
+-- kinds 8 and 15 wait for input, 9 and 16 for internal events
+unfoldable pub waits : ℕ → Bool → Bool
+waits k b = eqb k (bySource (sourceOf b) 8) || eqb k (bySource (sourceOf b) 15)
+
+-- does a record of kind k and name v wait for event e, of input or not?
+unfoldable pub hears : ℕ → ℕ → Bool → ℕ → Bool
+unfolding waits
+hears k v b e = waits k b && eqb e v
+
+-- what a record without children does at once
+unfoldable pub leafRuns : List ℕ → ℕ → ℕ → Arrays → Arrays
+unfolding tick kindActs
+leafRuns b i k m = if eqb k 0 then m else (if ltb k 8 then tick (kindActs k (nameAt b i) (numberAt b i) m) else m)
+
+-- ---- what a call promises that is lent some of the arrays only: with any others
+
+abbrev pub AfterBody : code.How → List ℕ → code.How → List ℕ → Type 0
+AfterBody h c h' c' = (l : List ℕ) (v : List ℤ) (o : List ℕ) → walk (howOf h') l (arrays v o c') ≡ execLoop arrayOps (howOf h) (walk (howOf h) l (arrays v o c))
+
+abbrev pub RightAlone : code.How → List ℕ → code.How → List ℕ → Type 0
+RightAlone h c h' c' = (l : List ℕ) (v : List ℤ) (o : List ℕ) → walk (howOf h') l (arrays v o c') ≡ rightAlone arrayOps (howOf h) (walk (howOf h) l (arrays v o c))
+
+abbrev pub Rests : (Arrays → Walk Arrays) → code.How → List ℕ → Type 0
+Rests f h l = (m : Arrays) → walk (howOf h) l m ≡ f m
+
+abbrev pub Emits : ℕ → ℕ → List ℕ → List ℕ → code.How → List ℕ → List ℕ → Type 0
+Emits n i l c h l' c' = (v : List ℤ) (o : List ℕ) → walk (howOf h) l' (arrays v o c') ≡ resumeEmit arrayOps n i l (arrays v o c)
+
+-- ---- the round
+
+-- more than the announced steps of any program, 606,210
+abbrev pub mostRounds : ℕ
+mostRounds = 1000000
+
+-- what a round of the code left
+abbrev pub roundOf : Rounded → List ℕ → Arrays → Round Arrays
+roundOf r l m = round (r .grounded) (r .emitted) (r .highest) l m

@@ -1,0 +1,359 @@
+// A tree that has begun runs on; one that is idle answers so, and nothing changes.
+ghost use mathlib.Core.Path.{_≡_};
+ghost use Prim.Native.Nat.{_+_, _<_, _≤_};
+ghost use Rattle.rules.specs.Table.{kindAt, secondAt};
+ghost use Rattle.theory.specs.State.{walk, exec, resume, resumeAwait, resumeFin, resumeEvery, takeTurn, resumeBoth, resumeHeld};
+ghost use Rattle.table.specs.Kinds.{childrenOf};
+ghost use Rattle.table.specs.Places.{treeOf};
+ghost use Rattle.memory.specs.Arrays.{arrays};
+ghost use Rattle.engine.specs.Walks.{Spot, arrayOps, howOf, parKind, parOf, Rests, Emits, RightAlone};
+use crate::How;
+use crate::clear::clear;
+use crate::exec::after_body;
+use crate::exec::after_right;
+use crate::exec::exec;
+use crate::settle::settle;
+use memory::tick;
+use table::kind_at;
+use table::second_at;
+
+fn resume_await(i: usize, st: &mut [u32; 256]) -> How
+    requires { ⌜ i < 256 ⌝ }
+    ensures { λ r. ⌜ Rests (resumeAwait arrayOps i (now (st .entry))) r (now (st .exit)) ⌝ }
+{
+    if st[i] == 0 {
+        return How::Idle;
+    }
+    if st[i] == 1 {
+        return How::Waiting;
+    }
+    st[i] = 0;
+    How::Ended
+}
+
+fn resume_fin(i: usize, st: &mut [u32; 256]) -> How
+    requires { ⌜ i < 256 ⌝ }
+    ensures { λ r. ⌜ Rests (resumeFin arrayOps i (now (st .entry))) r (now (st .exit)) ⌝ }
+{
+    if st[i] == 0 {
+        return How::Idle;
+    }
+    How::Waiting
+}
+
+fn resume_emit(i: usize, n: u32, st: &mut [u32; 256], counts: &mut [u64; 2]) -> How
+    requires { ⌜ i < 256 ⌝ }
+    ensures { λ r. ⌜ Emits n i (now (st .entry)) (now (counts .entry)) r (now (st .exit)) (now (counts .exit)) ⌝ }
+{
+    if st[i] == 0 {
+        return How::Idle;
+    }
+    if st[i] == n {
+        st[i] = 0;
+        tick(counts);
+        return How::Ended;
+    }
+    How::Waiting
+}
+
+// A woken every runs its body and waits again.
+fn resume_every(
+    table: &[u8],
+    i: usize,
+    st: &mut [u32; 256],
+    vars: &mut [i32; 64],
+    out: &mut [u8],
+    counts: &mut [u64; 2],
+) -> How
+    requires { ⌜ Spot (now table) i ⌝ }
+    requires { ⌜ 1 ≤ childrenOf (kindAt (now table) i) ⌝ }
+    ensures { λ r. ⌜ walk (howOf r) (now (st .exit)) (arrays (now (vars .exit)) (now (out .exit)) (now (counts .exit))) ≡ resumeEvery arrayOps (treeOf (now (table .entry)) (i + 1)) i (now (st .entry)) (arrays (now (vars .entry)) (now (out .entry)) (now (counts .entry))) ⌝ }
+{
+    if st[i] == 0 {
+        return How::Idle;
+    }
+    if st[i] == 2 {
+        st[i] = 1;
+        settle(table, i + 1, vars, out, counts);
+        tick(counts);
+        return How::Waiting;
+    }
+    How::Waiting
+}
+
+// The right of an and whose left has ended.
+fn right_alone(how: How, counts: &mut [u64; 2]) -> How
+    ensures { λ r. ⌜ RightAlone how (now (counts .entry)) r (now (counts .exit)) ⌝ }
+{
+    match how {
+        How::Idle => How::Ended,
+        How::Ended => {
+            tick(counts);
+            How::Ended
+        }
+        How::Broke => {
+            tick(counts);
+            How::Broke
+        }
+        How::Waiting => {
+            tick(counts);
+            How::Waiting
+        }
+        How::Ringing(event) => {
+            tick(counts);
+            How::Ringing(event)
+        }
+    }
+}
+
+// The right of an and or or that waits for its turn.
+fn take_turn(
+    table: &[u8],
+    i: usize,
+    n: u32,
+    st: &mut [u32; 256],
+    vars: &mut [i32; 64],
+    out: &mut [u8],
+    counts: &mut [u64; 2],
+) -> How
+    requires { ⌜ Spot (now table) i ⌝ }
+    requires { ⌜ 2 ≤ childrenOf (kindAt (now table) i) ⌝ }
+    ensures { λ r. ⌜ walk (howOf r) (now (st .exit)) (arrays (now (vars .exit)) (now (out .exit)) (now (counts .exit))) ≡ takeTurn arrayOps n i (exec arrayOps n (treeOf (now (table .entry)) (secondAt (now (table .entry)) i))) (now (st .entry)) (arrays (now (vars .entry)) (now (out .entry)) (now (counts .entry))) ⌝ }
+{
+    if st[i] == n {
+        st[i] = 0;
+        tick(counts);
+        tick(counts);
+        let j = second_at(table, i);
+        return exec(table, j, n, st, vars, out, counts);
+    }
+    How::Waiting
+}
+
+// After the left of an and or or whose right has not started.
+fn resume_held(
+    table: &[u8],
+    i: usize,
+    and: bool,
+    how: How,
+    n: u32,
+    st: &mut [u32; 256],
+    vars: &mut [i32; 64],
+    out: &mut [u8],
+    counts: &mut [u64; 2],
+) -> How
+    requires { ⌜ Spot (now table) i ⌝ }
+    requires { ⌜ kindAt (now table) i ≡ parKind and ⌝ }
+    ensures { λ r. ⌜ walk (howOf r) (now (st .exit)) (arrays (now (vars .exit)) (now (out .exit)) (now (counts .exit))) ≡ resumeHeld arrayOps n i (parOf and) (treeOf (now (table .entry)) (i + 1)) (howOf how) (walk (howOf how) (now (st .entry)) (arrays (now (vars .entry)) (now (out .entry)) (now (counts .entry)))) (exec arrayOps n (treeOf (now (table .entry)) (secondAt (now (table .entry)) i))) ⌝ }
+{
+    match how {
+        How::Idle => take_turn(table, i, n, st, vars, out, counts),
+        How::Ended => {
+            tick(counts);
+            if and {
+                return take_turn(table, i, n, st, vars, out, counts);
+            }
+            st[i] = 0;
+            How::Ended
+        }
+        How::Broke => {
+            tick(counts);
+            tick(counts);
+            st[i] = 0;
+            How::Broke
+        }
+        How::Waiting => {
+            let right = take_turn(table, i, n, st, vars, out, counts);
+            after_right(table, i, and, right, st, vars, out, counts)
+        }
+        How::Ringing(event) => How::Ringing(event),
+    }
+}
+
+pub fn resume(
+    table: &[u8],
+    i: usize,
+    n: u32,
+    st: &mut [u32; 256],
+    vars: &mut [i32; 64],
+    out: &mut [u8],
+    counts: &mut [u64; 2],
+) -> How
+    requires { ⌜ Spot (now table) i ⌝ }
+    ensures { λ r. ⌜ walk (howOf r) (now (st .exit)) (arrays (now (vars .exit)) (now (out .exit)) (now (counts .exit))) ≡ resume arrayOps n (treeOf (now (table .entry)) i) (now (st .entry)) (arrays (now (vars .entry)) (now (out .entry)) (now (counts .entry))) ⌝ }
+{
+    let kind = kind_at(table, i);
+    match kind {
+        8 => resume_await(i, st),
+        9 => resume_await(i, st),
+        10 => resume_emit(i, n, st, counts),
+        12 => resume_if(table, i, n, st, vars, out, counts),
+        13 => resume_seq(table, i, n, st, vars, out, counts),
+        14 => resume_loop(table, i, n, st, vars, out, counts),
+        15 => resume_every(table, i, st, vars, out, counts),
+        16 => resume_every(table, i, st, vars, out, counts),
+        17 => resume_par(table, i, true, n, st, vars, out, counts),
+        18 => resume_par(table, i, false, n, st, vars, out, counts),
+        19 => resume_fin(i, st),
+        _ => How::Idle,
+    }
+}
+
+fn resume_if(
+    table: &[u8],
+    i: usize,
+    n: u32,
+    st: &mut [u32; 256],
+    vars: &mut [i32; 64],
+    out: &mut [u8],
+    counts: &mut [u64; 2],
+) -> How
+    requires { ⌜ Spot (now table) i ⌝ }
+    requires { ⌜ kindAt (now table) i ≡ 12 ⌝ }
+    ensures { λ r. ⌜ walk (howOf r) (now (st .exit)) (arrays (now (vars .exit)) (now (out .exit)) (now (counts .exit))) ≡ resume arrayOps n (treeOf (now (table .entry)) i) (now (st .entry)) (arrays (now (vars .entry)) (now (out .entry)) (now (counts .entry))) ⌝ }
+{
+    let how = resume(table, i + 1, n, st, vars, out, counts);
+    match how {
+        How::Idle => {
+            let j = second_at(table, i);
+            resume(table, j, n, st, vars, out, counts)
+        }
+        How::Ended => How::Ended,
+        How::Broke => How::Broke,
+        How::Waiting => How::Waiting,
+        How::Ringing(event) => How::Ringing(event),
+    }
+}
+
+fn resume_seq(
+    table: &[u8],
+    i: usize,
+    n: u32,
+    st: &mut [u32; 256],
+    vars: &mut [i32; 64],
+    out: &mut [u8],
+    counts: &mut [u64; 2],
+) -> How
+    requires { ⌜ Spot (now table) i ⌝ }
+    requires { ⌜ kindAt (now table) i ≡ 13 ⌝ }
+    ensures { λ r. ⌜ walk (howOf r) (now (st .exit)) (arrays (now (vars .exit)) (now (out .exit)) (now (counts .exit))) ≡ resume arrayOps n (treeOf (now (table .entry)) i) (now (st .entry)) (arrays (now (vars .entry)) (now (out .entry)) (now (counts .entry))) ⌝ }
+{
+    let how = resume(table, i + 1, n, st, vars, out, counts);
+    match how {
+        How::Idle => {
+            let j = second_at(table, i);
+            resume(table, j, n, st, vars, out, counts)
+        }
+        How::Ended => {
+            tick(counts);
+            let j = second_at(table, i);
+            exec(table, j, n, st, vars, out, counts)
+        }
+        How::Broke => {
+            tick(counts);
+            How::Broke
+        }
+        How::Waiting => How::Waiting,
+        How::Ringing(event) => How::Ringing(event),
+    }
+}
+
+// A body that has ended starts anew.
+fn resume_loop(
+    table: &[u8],
+    i: usize,
+    n: u32,
+    st: &mut [u32; 256],
+    vars: &mut [i32; 64],
+    out: &mut [u8],
+    counts: &mut [u64; 2],
+) -> How
+    requires { ⌜ Spot (now table) i ⌝ }
+    requires { ⌜ kindAt (now table) i ≡ 14 ⌝ }
+    ensures { λ r. ⌜ walk (howOf r) (now (st .exit)) (arrays (now (vars .exit)) (now (out .exit)) (now (counts .exit))) ≡ resume arrayOps n (treeOf (now (table .entry)) i) (now (st .entry)) (arrays (now (vars .entry)) (now (out .entry)) (now (counts .entry))) ⌝ }
+{
+    let how = resume(table, i + 1, n, st, vars, out, counts);
+    match how {
+        How::Idle => How::Idle,
+        How::Ended => {
+            tick(counts);
+            tick(counts);
+            let again = exec(table, i + 1, n, st, vars, out, counts);
+            after_body(again, counts)
+        }
+        How::Broke => {
+            tick(counts);
+            How::Ended
+        }
+        How::Waiting => How::Waiting,
+        How::Ringing(event) => How::Ringing(event),
+    }
+}
+
+fn resume_par(
+    table: &[u8],
+    i: usize,
+    and: bool,
+    n: u32,
+    st: &mut [u32; 256],
+    vars: &mut [i32; 64],
+    out: &mut [u8],
+    counts: &mut [u64; 2],
+) -> How
+    requires { ⌜ Spot (now table) i ⌝ }
+    requires { ⌜ kindAt (now table) i ≡ parKind and ⌝ }
+    ensures { λ r. ⌜ walk (howOf r) (now (st .exit)) (arrays (now (vars .exit)) (now (out .exit)) (now (counts .exit))) ≡ resume arrayOps n (treeOf (now (table .entry)) i) (now (st .entry)) (arrays (now (vars .entry)) (now (out .entry)) (now (counts .entry))) ⌝ }
+{
+    let held = st[i];
+    let how = resume(table, i + 1, n, st, vars, out, counts);
+    if held == 0 {
+        return resume_both(table, i, and, how, n, st, vars, out, counts);
+    }
+    resume_held(table, i, and, how, n, st, vars, out, counts)
+}
+
+// After the left of an and or or whose right has started.
+fn resume_both(
+    table: &[u8],
+    i: usize,
+    and: bool,
+    how: How,
+    n: u32,
+    st: &mut [u32; 256],
+    vars: &mut [i32; 64],
+    out: &mut [u8],
+    counts: &mut [u64; 2],
+) -> How
+    requires { ⌜ Spot (now table) i ⌝ }
+    requires { ⌜ kindAt (now table) i ≡ parKind and ⌝ }
+    ensures { λ r. ⌜ walk (howOf r) (now (st .exit)) (arrays (now (vars .exit)) (now (out .exit)) (now (counts .exit))) ≡ resumeBoth arrayOps (parOf and) (treeOf (now (table .entry)) (i + 1)) (treeOf (now (table .entry)) (secondAt (now (table .entry)) i)) (howOf how) (walk (howOf how) (now (st .entry)) (arrays (now (vars .entry)) (now (out .entry)) (now (counts .entry)))) (resume arrayOps n (treeOf (now (table .entry)) (secondAt (now (table .entry)) i))) ⌝ }
+{
+    let j = second_at(table, i);
+    match how {
+        How::Idle => resume(table, j, n, st, vars, out, counts),
+        How::Ended => {
+            if and {
+                let right = resume(table, j, n, st, vars, out, counts);
+                return right_alone(right, counts);
+            }
+            if clear(table, j, st, vars, out, counts) {
+                tick(counts);
+                return How::Ended;
+            }
+            How::Ended
+        }
+        How::Broke => {
+            if clear(table, j, st, vars, out, counts) {
+                tick(counts);
+                tick(counts);
+                return How::Broke;
+            }
+            How::Broke
+        }
+        How::Waiting => {
+            let right = resume(table, j, n, st, vars, out, counts);
+            after_right(table, i, and, right, st, vars, out, counts)
+        }
+        How::Ringing(event) => How::Ringing(event),
+    }
+}

@@ -1,0 +1,157 @@
+// The round: pushes and pops until level 0, the whole program resumed after each.
+ghost use mathlib.Core.Path.{_≡_};
+ghost use Prim.Native.Nat.{_+_, _≤_, max};
+ghost use Rattle.theory.specs.Round.{eventOf, heard, onward, pushed, rounds, react, begin};
+ghost use Rattle.table.specs.Places.{treeOf};
+ghost use Rattle.memory.specs.Arrays.{arrays};
+ghost use Rattle.engine.specs.Walks.{Spot, arrayOps, howOf, eventFrom, mostRounds, roundOf};
+use crate::How;
+use crate::Rounded;
+use crate::exec::exec;
+use crate::resume::resume;
+use crate::wake::awake;
+use crate::wake::blocked;
+use memory::tick;
+
+// The event that is pending, 0 for none.
+fn event_of(how: How) -> usize
+    ensures { λ r. ⌜ r ≡ eventOf (howOf how) ⌝ }
+{
+    match how {
+        How::Idle => 0,
+        How::Ended => 0,
+        How::Broke => 0,
+        How::Waiting => 0,
+        How::Ringing(event) => event,
+    }
+}
+
+fn larger(a: u32, b: u32) -> u32
+    ensures { λ r. ⌜ r ≡ max a b ⌝ }
+{
+    if a < b { b } else { a }
+}
+
+// The whole program runs on at a level; where it is blocked, nothing is left to do.
+fn onward(
+    table: &[u8],
+    level: u32,
+    st: &mut [u32; 256],
+    vars: &mut [i32; 64],
+    out: &mut [u8],
+    counts: &mut [u64; 2],
+) -> usize
+    requires { ⌜ Spot (now table) 0 ⌝ }
+    requires { ⌜ level ≤ mostRounds + 1 ⌝ }
+    ensures { λ r. ⌜ heard r (now (st .exit)) (arrays (now (vars .exit)) (now (out .exit)) (now (counts .exit))) ≡ onward arrayOps (treeOf (now (table .entry)) 0) level (now (st .entry)) (arrays (now (vars .entry)) (now (out .entry)) (now (counts .entry))) ⌝ }
+{
+    let n = level + 3;
+    if blocked(table, 0, n, st) {
+        return 0;
+    }
+    let how = resume(table, 0, n, st, vars, out, counts);
+    event_of(how)
+}
+
+// The same at a level that a push came to.
+fn pushed(
+    table: &[u8],
+    input: bool,
+    event: usize,
+    level: u32,
+    st: &mut [u32; 256],
+    vars: &mut [i32; 64],
+    out: &mut [u8],
+    counts: &mut [u64; 2],
+) -> usize
+    requires { ⌜ Spot (now table) 0 ⌝ }
+    requires { ⌜ level ≤ mostRounds + 1 ⌝ }
+    ensures { λ r. ⌜ heard r (now (st .exit)) (arrays (now (vars .exit)) (now (out .exit)) (now (counts .exit))) ≡ pushed arrayOps (treeOf (now (table .entry)) 0) (eventFrom input event) level (now (st .entry)) (arrays (now (vars .entry)) (now (out .entry)) (now (counts .entry))) ⌝ }
+{
+    awake(table, 0, input, event, st);
+    onward(table, level, st, vars, out, counts)
+}
+
+// From level 1 on, with the event that is pending there (0 for none): at most so many pushes and pops.
+fn rounds(
+    table: &[u8],
+    most: u32,
+    first: usize,
+    st: &mut [u32; 256],
+    vars: &mut [i32; 64],
+    out: &mut [u8],
+    counts: &mut [u64; 2],
+) -> Rounded
+    requires { ⌜ Spot (now table) 0 ⌝ }
+    requires { ⌜ most ≤ mostRounds ⌝ }
+    ensures { λ r. ⌜ roundOf r (now (st .exit)) (arrays (now (vars .exit)) (now (out .exit)) (now (counts .exit))) ≡ rounds arrayOps (treeOf (now (table .entry)) 0) most first 1 0 1 (now (st .entry)) (arrays (now (vars .entry)) (now (out .entry)) (now (counts .entry))) ⌝ }
+{
+    let mut left = most;
+    let mut event = first;
+    let mut level: u32 = 1;
+    let mut emitted: u64 = 0;
+    let mut highest: u32 = 1;
+    while left > 0 {
+        tick(counts);
+        left -= 1;
+        if event == 0 {
+            if level == 1 {
+                return Rounded {
+                    grounded: true,
+                    emitted: emitted,
+                    highest: highest,
+                };
+            }
+            level -= 1;
+            event = onward(table, level, st, vars, out, counts);
+            continue;
+        }
+        level += 1;
+        emitted += 1;
+        highest = larger(highest, level);
+        event = pushed(table, false, event, level, st, vars, out, counts);
+    }
+    Rounded {
+        grounded: false,
+        emitted: emitted,
+        highest: highest,
+    }
+}
+
+// A reaction to an input event: pushed to level 1.
+pub fn react(
+    table: &[u8],
+    event: usize,
+    most: u32,
+    st: &mut [u32; 256],
+    vars: &mut [i32; 64],
+    out: &mut [u8],
+    counts: &mut [u64; 2],
+) -> Rounded
+    requires { ⌜ Spot (now table) 0 ⌝ }
+    requires { ⌜ most ≤ mostRounds ⌝ }
+    ensures { λ r. ⌜ roundOf r (now (st .exit)) (arrays (now (vars .exit)) (now (out .exit)) (now (counts .exit))) ≡ react arrayOps (treeOf (now (table .entry)) 0) most event (now (st .entry)) (arrays (now (vars .entry)) (now (out .entry)) (now (counts .entry))) ⌝ }
+{
+    tick(counts);
+    let first = pushed(table, true, event, 1, st, vars, out, counts);
+    rounds(table, most, first, st, vars, out, counts)
+}
+
+// A start: the program itself begins at level 1.
+pub fn begin(
+    table: &[u8],
+    most: u32,
+    st: &mut [u32; 256],
+    vars: &mut [i32; 64],
+    out: &mut [u8],
+    counts: &mut [u64; 2],
+) -> Rounded
+    requires { ⌜ Spot (now table) 0 ⌝ }
+    requires { ⌜ most ≤ mostRounds ⌝ }
+    ensures { λ r. ⌜ roundOf r (now (st .exit)) (arrays (now (vars .exit)) (now (out .exit)) (now (counts .exit))) ≡ begin arrayOps (treeOf (now (table .entry)) 0) most (now (st .entry)) (arrays (now (vars .entry)) (now (out .entry)) (now (counts .entry))) ⌝ }
+{
+    tick(counts);
+    let how = exec(table, 0, 4, st, vars, out, counts);
+    let first = event_of(how);
+    rounds(table, most, first, st, vars, out, counts)
+}
