@@ -1,0 +1,44 @@
+-- What the marks say of a construct: whether it has one, and the lowest construct in it that does not fit.
+use mathlib.Core.Path.{_≡_}
+use mathlib.Core.Bool.{Bool, false, not, _&&_, _||_}
+use mathlib.Core.List.{List}
+use Prim.Native.Nat.{ℕ, _<_, _≤_}
+use lib.Dec.{T, eqb}
+use lib.ListN.{length}
+use Rattle.rules.specs.Stages.{if_then_else_, isSome}
+use Rattle.rules.specs.Limits.{mostRecords}
+use Rattle.rules.specs.Tree.{Tree}
+use Rattle.rules.specs.Table.{recordsOf, inKindsTable}
+use Rattle.rules.specs.Marks.{restOf, misfits}
+use Rattle.table.specs.Places.{Place}
+use Rattle.marks.specs.Found.{firstOf}
+use Rattle.marks.specs.declared.fitting.Found.{Found}
+use Rattle.marks.specs.declared.fitting.Found.the-variants.{At, Nothing}
+use Rattle.marks.specs.declared.fitting.Seen.{Seen}
+
+-- a table that passes stages 1 to 3
+pub record Sound (b : List ℕ) : Type 0 where
+  pub root : Place b 0
+  pub named : (j : ℕ) → j < recordsOf b → T (inKindsTable b j)
+  pub few : recordsOf b ≤ mostRecords
+
+-- a place of a table whose shape is right, and one mark for each record
+pub record Spot (b m : List ℕ) (i : ℕ) : Type 0 where
+  pub place : Place b i
+  pub sized : length m ≡ recordsOf b
+
+unfoldable pub seenOf : List ℕ → Tree → Seen
+unfolding restOf misfits
+seenOf m t = record { marked = isSome (restOf m t); misfit = firstOf (misfits m t) }
+
+-- whether a construct of two children does not fit: an and always does; an or where one side only has marks; a sequence or an if where both have
+abbrev pub misfitsHere : ℕ → Bool → Bool → Bool
+misfitsHere k x y = if eqb k 17 then false else (if eqb k 18 then (if x then not y else y) else x && y)
+
+abbrev pub orElse : Found → Found → Found
+orElse (At i) f = At i
+orElse Nothing f = f
+
+-- of two children, from what the marks say of each
+abbrev pub joinSeen : ℕ → ℕ → Seen → Seen → Seen
+joinSeen k i l r = record { marked = l .marked || r .marked; misfit = if misfitsHere k (l .marked) (r .marked) then At i else orElse (l .misfit) (r .misfit) }
