@@ -277,7 +277,7 @@ fn resume_loop(
         How::Idle => How::Idle,
         How::Ended => {
             tick(counts);
-            tick(counts);
+            tick(counts); // the loop starts anew
             let again = exec(table, i + 1, n, st, vars, out, counts);
             after_body(again, counts)
         }

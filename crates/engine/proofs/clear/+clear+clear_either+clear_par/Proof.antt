@@ -1,13 +1,14 @@
-use mathlib.Core.Path.{_≡_, sym, _∙_}
+-- `clear` is the sweep of the theory at the tree of its place, with its cases for an if or a sequence and for an and or or. The measure: three for each record of the span, and the rank of the function.
+-- Assumes nothing.
+use mathlib.Core.Path.{sym, _∙_}
 use mathlib.Core.Logic.{inl, inr}
-use Prim.Native.Nat.{_*_, _+_}
+use Prim.Native.Nat.{_*_, _+_, ℕ, _<_}
 use native.Mathlib.Omega.{arith}
 use borrow.Author.Needs.{needs}
 use borrow.Author.Tests.{eq-eqb, ne-eqb}
 use Rattle.rules.specs.Table.{spanAt}
 use Rattle.engine.proofs.Spots.{spot-down, down, next, children, either-children, par-children}
 use Rattle.engine.proofs.Clearing.{sweep-either, sweep-loop, sweep-par, sweep-fin, sweep-rest, swept-memory}
-use Prim.Native.Nat.{ℕ, _<_}
 use borrow.Fn.Kinds.{In}
 use borrow.Fn.PlainCycle.{Measures, is, falls, and}
 use Rattle.engine.proofs.clear.clear.Reads as clear
@@ -43,8 +44,7 @@ abbrev clear-below : ℕ → In 5 clear-kinds.ps
 clear-below t = and 5 clear-kinds.ps (falls 5 clear-kinds.ps _<_ μ-clear t) clear.Pre
 
 abbrev clear-either-at : ℕ → In 5 clear-either-kinds.ps
-clear-either-at t =
-    and 5 clear-either-kinds.ps (is 5 clear-either-kinds.ps μ-clear-either t) clear-either.Pre
+clear-either-at t = and 5 clear-either-kinds.ps (is 5 clear-either-kinds.ps μ-clear-either t) clear-either.Pre
 
 abbrev clear-either-below : ℕ → In 5 clear-either-kinds.ps
 clear-either-below t =
@@ -58,98 +58,34 @@ abbrev clear-par-at : ℕ → In 5 clear-par-kinds.ps
 clear-par-at t = and 5 clear-par-kinds.ps (is 5 clear-par-kinds.ps μ-clear-par t) clear-par.Pre
 
 abbrev clear-par-below : ℕ → In 5 clear-par-kinds.ps
-clear-par-below t =
-    and 5 clear-par-kinds.ps (falls 5 clear-par-kinds.ps _<_ μ-clear-par t) clear-par.Pre
+clear-par-below t = and 5 clear-par-kinds.ps (falls 5 clear-par-kinds.ps _<_ μ-clear-par t) clear-par.Pre
 
 abbrev claims-clear : ℕ → clear-lts.Claims
-claims-clear t =
-    (kind-at-reads.Asked, kind-at-reads.Learnt, clear-either-below t, clear-either.Post, clear-below t, clear.Post, clear-par-below t, clear-par.Post, settle-reads.Asked, settle-reads.Learnt, clear-one-reads.Asked, clear-one-reads.Learnt)
+claims-clear t = (kind-at-reads.Asked, kind-at-reads.Learnt, clear-either-below t, clear-either.Post, clear-below t, clear.Post, clear-par-below t, clear-par.Post, settle-reads.Asked, settle-reads.Learnt, clear-one-reads.Asked, clear-one-reads.Learnt)
 
 abbrev claims-clear-either : ℕ → clear-either-lts.Claims
-claims-clear-either t =
-    (clear-below t, clear.Post, second-at-reads.Asked, second-at-reads.Learnt)
+claims-clear-either t = (clear-below t, clear.Post, second-at-reads.Asked, second-at-reads.Learnt)
 
 abbrev claims-clear-par : ℕ → clear-par-lts.Claims
-claims-clear-par t =
-    (clear-below t, clear.Post, tick-reads.Asked, tick-reads.Learnt, second-at-reads.Asked, second-at-reads.Learnt)
-
-clear-kind-at-requires : (t : ℕ) → clear-lts.Need-kind-at-requires (claims-clear t) (clear-at t) clear.Post
-clear-kind-at-requires t c κs = ((c .before .before .pre .1) .place) .inside
-
-clear-clear-either-requires : (t : ℕ) → clear-lts.Need-clear-either-requires (claims-clear t) (clear-at t) clear.Post
-clear-clear-either-requires t c κs = (omega arith, ((c .before .before .before .before .before .before .before .before .pre .1), inl (sym (c .before .before .before .before .before .kind-at .ensures .0) ∙ c .before .before .before .before .match .keys1)))
-
-clear-clear-either-requires-2 : (t : ℕ) → clear-lts.Need-clear-either-requires-2 (claims-clear t) (clear-at t) clear.Post
-clear-clear-either-requires-2 t c κs = (omega arith, ((c .before .before .before .before .before .before .before .before .pre .1), inr (sym (c .before .before .before .before .before .kind-at .ensures .0) ∙ c .before .before .before .before .match .keys2)))
-
-clear-add-clear : (t : ℕ) → clear-lts.Need-add-clear (claims-clear t) (clear-at t) clear.Post
-clear-add-clear t c = omega (arith, ((c .before .before .before .before .pre .1) .place) .inside, (c .before .before .before .before .pre .1) .small)
-
-clear-clear-requires : (t : ℕ) → clear-lts.Need-clear-requires (claims-clear t) (clear-at t) clear.Post
-clear-clear-requires t c κs = down _ _ (c .before .before .before .before .before .before .before .before .pre .1) (omega (arith, c .before .before .before .before .before .before .before .before .pre .0)) (children 14 (sym (c .before .before .before .before .before .kind-at .ensures .0) ∙ c .before .before .before .before .match .keys3) tt)
-
-clear-clear-par-requires : (t : ℕ) → clear-lts.Need-clear-par-requires (claims-clear t) (clear-at t) clear.Post
-clear-clear-par-requires t c κs = (omega arith, ((c .before .before .before .before .before .before .before .before .pre .1), (sym (c .before .before .before .before .before .kind-at .ensures .0) ∙ c .before .before .before .before .match .keys4)))
-
-clear-clear-par-requires-2 : (t : ℕ) → clear-lts.Need-clear-par-requires-2 (claims-clear t) (clear-at t) clear.Post
-clear-clear-par-requires-2 t c κs = (omega arith, ((c .before .before .before .before .before .before .before .before .pre .1), (sym (c .before .before .before .before .before .kind-at .ensures .0) ∙ c .before .before .before .before .match .keys5)))
-
-clear-mul-if1 : (t : ℕ) → clear-lts.Need-mul-if1 (claims-clear t) (clear-at t) clear.Post
-clear-mul-if1 t c = omega (arith, ((c .before .before .before .before .pre .1) .place) .inside, (c .before .before .before .before .pre .1) .small)
-
-clear-element-copy-out-if1 : (t : ℕ) → clear-lts.Need-element-copy-out-if1 (claims-clear t) (clear-at t) clear.Post
-clear-element-copy-out-if1 t c = omega (arith, ((c .before .before .before .before .pre .1) .place) .inside, (c .before .before .before .before .pre .1) .small)
+claims-clear-par t = (clear-below t, clear.Post, tick-reads.Asked, tick-reads.Learnt, second-at-reads.Asked, second-at-reads.Learnt)
 
 clear-returns : (t : ℕ) → clear-lts.Need-returns (claims-clear t) (clear-at t) clear.Post
 clear-returns t c = rw (sweep-fin _ _ ((c .before .before .before .before .before .before .pre .1) .place) _ _ (sym (c .before .before .before .kind-at .ensures .0) ∙ c .before .before .match .keys6), eq-eqb _ _ (c .if1 .taken))
 
-clear-mul-st : (t : ℕ) → clear-lts.Need-mul-st (claims-clear t) (clear-at t) clear.Post
-clear-mul-st t c = omega (arith, ((c .before .before .before .before .before .before .pre .1) .place) .inside, (c .before .before .before .before .before .before .pre .1) .small)
-
-clear-element-write-st : (t : ℕ) → clear-lts.Need-element-write-st (claims-clear t) (clear-at t) clear.Post
-clear-element-write-st t c = omega (arith, ((c .before .before .before .before .before .before .pre .1) .place) .inside, (c .before .before .before .before .before .before .pre .1) .small)
-
-clear-add-settle : (t : ℕ) → clear-lts.Need-add-settle (claims-clear t) (clear-at t) clear.Post
-clear-add-settle t c = omega (arith, ((c .before .before .before .before .before .before .pre .1) .place) .inside, (c .before .before .before .before .before .before .pre .1) .small)
-
-clear-settle-requires : (t : ℕ) → clear-lts.Need-settle-requires (claims-clear t) (clear-at t) clear.Post
-clear-settle-requires t c κs = spot-down _ _ (c .before .before .before .before .before .before .before .before .before .pre .1) (children 19 (sym (c .before .before .before .before .before .before .kind-at .ensures .0) ∙ c .before .before .before .before .before .match .keys6) tt)
-
-clear-clear-one-requires : (t : ℕ) → clear-lts.Need-clear-one-requires (claims-clear t) (clear-at t) clear.Post
-clear-clear-one-requires t c κs = omega (arith, ((c .before .before .before .before .before .pre .1) .place) .inside, (c .before .before .before .before .before .pre .1) .small)
-
-clear-same-length : (t : ℕ) → clear-lts.Need-same-length (claims-clear t) (clear-at t) clear.Post
-clear-same-length t c = search needs
-
 clear-returns-2 : (t : ℕ) → clear-lts.Need-returns-2 (claims-clear t) (clear-at t) clear.Post
 clear-returns-2 t c = c .before .before .clear-either .ensures
-
-clear-same-length-2 : (t : ℕ) → clear-lts.Need-same-length-2 (claims-clear t) (clear-at t) clear.Post
-clear-same-length-2 t c = search needs
 
 clear-returns-3 : (t : ℕ) → clear-lts.Need-returns-3 (claims-clear t) (clear-at t) clear.Post
 clear-returns-3 t c = c .before .before .clear-either2 .ensures
 
-clear-same-length-3 : (t : ℕ) → clear-lts.Need-same-length-3 (claims-clear t) (clear-at t) clear.Post
-clear-same-length-3 t c = search needs
-
 clear-returns-4 : (t : ℕ) → clear-lts.Need-returns-4 (claims-clear t) (clear-at t) clear.Post
 clear-returns-4 t c = rw (sweep-loop _ _ ((c .before .before .before .before .before .before .before .before .before .before .before .pre .1) .place) _ _ (sym (c .before .before .before .before .before .before .before .before .kind-at .ensures .0) ∙ c .before .before .before .before .before .before .before .match .keys3)) (c .before .before .clear .ensures)
-
-clear-same-length-4 : (t : ℕ) → clear-lts.Need-same-length-4 (claims-clear t) (clear-at t) clear.Post
-clear-same-length-4 t c = search needs
 
 clear-returns-5 : (t : ℕ) → clear-lts.Need-returns-5 (claims-clear t) (clear-at t) clear.Post
 clear-returns-5 t c = c .before .before .clear-par .ensures
 
-clear-same-length-5 : (t : ℕ) → clear-lts.Need-same-length-5 (claims-clear t) (clear-at t) clear.Post
-clear-same-length-5 t c = search needs
-
 clear-returns-6 : (t : ℕ) → clear-lts.Need-returns-6 (claims-clear t) (clear-at t) clear.Post
 clear-returns-6 t c = c .before .before .clear-par2 .ensures
-
-clear-same-length-6 : (t : ℕ) → clear-lts.Need-same-length-6 (claims-clear t) (clear-at t) clear.Post
-clear-same-length-6 t c = search needs
 
 clear-returns-7 : (t : ℕ) → clear-lts.Need-returns-7 (claims-clear t) (clear-at t) clear.Post
 clear-returns-7 t c = rw (sweep-fin _ _ ((c .before .before .before .before .before .before .before .before .before .before .before .before .pre .1) .place) _ _ (sym (c .before .before .before .before .before .before .before .before .before .kind-at .ensures .0) ∙ c .before .before .before .before .before .before .before .before .match .keys6), ne-eqb _ _ (c .before .before .before .before .before .before .if1 .left), ← c .before .before .settle .ensures)
@@ -159,165 +95,84 @@ clear-returns-8 t c =
     let r = rw (c .before .before .before .kind-at .ensures .0) at (c .before .before .match .rest) in
     rw (sweep-rest _ _ ((c .before .before .before .before .before .before .pre .1) .place) _ _ (r .0 .0 .0 .0 .0 .1) (r .0 .0 .0 .0 .1) (r .0 .0 .0 .1) (r .0 .0 .1) (r .0 .1) (r .1), ← c .clear-one .ensures .0, ← c .clear-one .ensures .1)
 
-clear-either-add-clear : (t : ℕ) → clear-either-lts.Need-add-clear (claims-clear-either t) (clear-either-at t) clear-either.Post
-clear-either-add-clear t c = omega (arith, ((c .before .before .pre .1 .0) .place) .inside, (c .before .before .pre .1 .0) .small)
-
-clear-either-clear-requires : (t : ℕ) → clear-either-lts.Need-clear-requires (claims-clear-either t) (clear-either-at t) clear-either.Post
-clear-either-clear-requires t c κs = down _ _ (c .before .before .before .before .before .before .pre .1 .0) (omega (arith, c .before .before .before .before .before .before .pre .0)) (omega (arith, either-children (c .before .before .before .before .before .before .pre .1 .1)))
-
-clear-either-same-length : (t : ℕ) → clear-either-lts.Need-same-length (claims-clear-either t) (clear-either-at t) clear-either.Post
-clear-either-same-length t c = search needs
-
 clear-either-returns : (t : ℕ) → clear-either-lts.Need-returns (claims-clear-either t) (clear-either-at t) clear-either.Post
 clear-either-returns t c = rw (sweep-either _ _ ((c .before .before .before .before .before .before .before .before .before .before .pre .1 .0) .place) _ _ (c .before .before .before .before .before .before .before .before .before .before .pre .1 .1), ← c .before .before .before .clear .ensures, c .if1 .taken)
-
-clear-either-second-at-requires : (t : ℕ) → clear-either-lts.Need-second-at-requires (claims-clear-either t) (clear-either-at t) clear-either.Post
-clear-either-second-at-requires t c κs = spot-down _ _ (c .before .before .before .before .before .before .before .before .before .before .pre .1 .0) (omega (arith, either-children (c .before .before .before .before .before .before .before .before .before .before .pre .1 .1))) .place .inside
-
-clear-either-clear-requires-2 : (t : ℕ) → clear-either-lts.Need-clear-requires-2 (claims-clear-either t) (clear-either-at t) clear-either.Post
-clear-either-clear-requires-2 t c κs = next _ _ (c .before .before .before .before .before .before .before .before .before .before .before .before .before .before .before .pre .1 .0) (omega (arith, c .before .before .before .before .before .before .before .before .before .before .before .before .before .before .before .pre .0)) (either-children (c .before .before .before .before .before .before .before .before .before .before .before .before .before .before .before .pre .1 .1)) (c .before .before .before .before .second-at .ensures)
-
-clear-either-same-length-2 : (t : ℕ) → clear-either-lts.Need-same-length-2 (claims-clear-either t) (clear-either-at t) clear-either.Post
-clear-either-same-length-2 t c = search needs
 
 clear-either-returns-2 : (t : ℕ) → clear-either-lts.Need-returns-2 (claims-clear-either t) (clear-either-at t) clear-either.Post
 clear-either-returns-2 t c = rw (sweep-either _ _ ((c .before .before .before .before .before .before .before .before .before .before .before .before .before .before .before .before .before .before .pre .1 .0) .place) _ _ (c .before .before .before .before .before .before .before .before .before .before .before .before .before .before .before .before .before .before .pre .1 .1), ← c .before .before .before .before .before .before .before .before .before .before .before .clear .ensures, c .before .before .before .before .before .before .before .before .if1 .left, ← c .before .before .before .before .before .before .before .second-at .ensures) (c .before .before .clear2 .ensures)
 
-clear-par-mul-held : (t : ℕ) → clear-par-lts.Need-mul-held (claims-clear-par t) (clear-par-at t) clear-par.Post
-clear-par-mul-held t c = omega (arith, ((c .before .before .pre .1 .0) .place) .inside, (c .before .before .pre .1 .0) .small)
-
-clear-par-element-copy-out-held : (t : ℕ) → clear-par-lts.Need-element-copy-out-held (claims-clear-par t) (clear-par-at t) clear-par.Post
-clear-par-element-copy-out-held t c = omega (arith, ((c .before .before .pre .1 .0) .place) .inside, (c .before .before .pre .1 .0) .small)
-
-clear-par-mul-st : (t : ℕ) → clear-par-lts.Need-mul-st (claims-clear-par t) (clear-par-at t) clear-par.Post
-clear-par-mul-st t c = omega (arith, ((c .before .before .before .pre .1 .0) .place) .inside, (c .before .before .before .pre .1 .0) .small)
-
-clear-par-element-write-st : (t : ℕ) → clear-par-lts.Need-element-write-st (claims-clear-par t) (clear-par-at t) clear-par.Post
-clear-par-element-write-st t c = omega (arith, ((c .before .before .before .pre .1 .0) .place) .inside, (c .before .before .before .pre .1 .0) .small)
-
-clear-par-add-clear : (t : ℕ) → clear-par-lts.Need-add-clear (claims-clear-par t) (clear-par-at t) clear-par.Post
-clear-par-add-clear t c = omega (arith, ((c .before .before .before .pre .1 .0) .place) .inside, (c .before .before .before .pre .1 .0) .small)
-
-clear-par-clear-requires : (t : ℕ) → clear-par-lts.Need-clear-requires (claims-clear-par t) (clear-par-at t) clear-par.Post
-clear-par-clear-requires t c κs = down _ _ (c .before .before .before .before .before .before .before .pre .1 .0) (omega (arith, c .before .before .before .before .before .before .before .pre .0)) (omega (arith, (par-children (c .before .before .before .before .before .before .before .args .and) (c .before .before .before .before .before .before .before .pre .1 .1))))
-
-clear-par-tick-requires : (t : ℕ) → clear-par-lts.Need-tick-requires (claims-clear-par t) (clear-par-at t) clear-par.Post
-clear-par-tick-requires t c κs = tt
-
-clear-par-same-length : (t : ℕ) → clear-par-lts.Need-same-length (claims-clear-par t) (clear-par-at t) clear-par.Post
-clear-par-same-length t c = search needs
-
 clear-par-returns : (t : ℕ) → clear-par-lts.Need-returns (claims-clear-par t) (clear-par-at t) clear-par.Post
 clear-par-returns t c = rw (sweep-par _ _ ((c .before .before .before .before .before .before .before .before .before .before .before .before .before .before .pre .1 .0) .place) _ _ (c .before .before .before .before .before .before .before .before .before .before .before .before .before .before .args .and) (c .before .before .before .before .before .before .before .before .before .before .before .before .before .before .pre .1 .1), ne-eqb _ _ (c .before .before .before .if1 .taken), ← c .before .before .before .before .before .before .clear .ensures, c .before .before .if2 .taken) (swept-memory (c .tick .ensures _ _))
-
-clear-par-same-length-2 : (t : ℕ) → clear-par-lts.Need-same-length-2 (claims-clear-par t) (clear-par-at t) clear-par.Post
-clear-par-same-length-2 t c = search needs
 
 clear-par-returns-2 : (t : ℕ) → clear-par-lts.Need-returns-2 (claims-clear-par t) (clear-par-at t) clear-par.Post
 clear-par-returns-2 t c = rw (sweep-par _ _ ((c .before .before .before .before .before .before .before .before .before .before .before .before .pre .1 .0) .place) _ _ (c .before .before .before .before .before .before .before .before .before .before .before .before .args .and) (c .before .before .before .before .before .before .before .before .before .before .before .before .pre .1 .1), ne-eqb _ _ (c .before .if1 .taken), ← c .before .before .before .before .clear .ensures, c .if2 .left)
 
-clear-par-second-at-requires : (t : ℕ) → clear-par-lts.Need-second-at-requires (claims-clear-par t) (clear-par-at t) clear-par.Post
-clear-par-second-at-requires t c κs = spot-down _ _ (c .before .before .before .before .before .before .before .before .before .before .before .pre .1 .0) (omega (arith, (par-children (c .before .before .before .before .before .before .before .before .before .before .before .args .and) (c .before .before .before .before .before .before .before .before .before .before .before .pre .1 .1)))) .place .inside
-
-clear-par-clear-requires-2 : (t : ℕ) → clear-par-lts.Need-clear-requires-2 (claims-clear-par t) (clear-par-at t) clear-par.Post
-clear-par-clear-requires-2 t c κs = next _ _ (c .before .before .before .before .before .before .before .before .before .before .before .before .before .before .before .before .pre .1 .0) (omega (arith, c .before .before .before .before .before .before .before .before .before .before .before .before .before .before .before .before .pre .0)) (par-children (c .before .before .before .before .before .before .before .before .before .before .before .before .before .before .before .before .args .and) (c .before .before .before .before .before .before .before .before .before .before .before .before .before .before .before .before .pre .1 .1)) (c .before .before .before .before .second-at .ensures)
-
-clear-par-tick-requires-2 : (t : ℕ) → clear-par-lts.Need-tick-requires-2 (claims-clear-par t) (clear-par-at t) clear-par.Post
-clear-par-tick-requires-2 t c κs = tt
-
-clear-par-same-length-3 : (t : ℕ) → clear-par-lts.Need-same-length-3 (claims-clear-par t) (clear-par-at t) clear-par.Post
-clear-par-same-length-3 t c = search needs
-
 clear-par-returns-3 : (t : ℕ) → clear-par-lts.Need-returns-3 (claims-clear-par t) (clear-par-at t) clear-par.Post
 clear-par-returns-3 t c = rw (sweep-par _ _ ((c .before .before .before .before .before .before .before .before .before .before .before .before .before .before .before .before .before .before .before .before .before .before .before .pre .1 .0) .place) _ _ (c .before .before .before .before .before .before .before .before .before .before .before .before .before .before .before .before .before .before .before .before .before .before .before .args .and) (c .before .before .before .before .before .before .before .before .before .before .before .before .before .before .before .before .before .before .before .before .before .before .before .pre .1 .1), eq-eqb _ _ (c .before .before .before .before .before .before .before .before .before .before .before .before .if1 .left), ← c .before .before .before .before .before .before .before .before .before .before .before .before .before .before .before .clear .ensures, ← c .before .before .before .before .before .before .before .before .before .before .before .second-at .ensures, ← c .before .before .before .before .before .before .clear2 .ensures, c .before .before .before .if3 .taken, c .before .before .if4 .taken) (swept-memory (c .tick2 .ensures _ _))
 
-clear-par-same-length-4 : (t : ℕ) → clear-par-lts.Need-same-length-4 (claims-clear-par t) (clear-par-at t) clear-par.Post
-clear-par-same-length-4 t c = search needs
-
 clear-par-returns-4 : (t : ℕ) → clear-par-lts.Need-returns-4 (claims-clear-par t) (clear-par-at t) clear-par.Post
 clear-par-returns-4 t c = rw (sweep-par _ _ ((c .before .before .before .before .before .before .before .before .before .before .before .before .before .before .before .before .before .before .before .before .before .pre .1 .0) .place) _ _ (c .before .before .before .before .before .before .before .before .before .before .before .before .before .before .before .before .before .before .before .before .before .args .and) (c .before .before .before .before .before .before .before .before .before .before .before .before .before .before .before .before .before .before .before .before .before .pre .1 .1), eq-eqb _ _ (c .before .before .before .before .before .before .before .before .before .before .if1 .left), ← c .before .before .before .before .before .before .before .before .before .before .before .before .before .clear .ensures, ← c .before .before .before .before .before .before .before .before .before .second-at .ensures, ← c .before .before .before .before .clear2 .ensures, c .before .if3 .taken, c .if4 .left)
-
-clear-par-same-length-5 : (t : ℕ) → clear-par-lts.Need-same-length-5 (claims-clear-par t) (clear-par-at t) clear-par.Post
-clear-par-same-length-5 t c = search needs
 
 clear-par-returns-5 : (t : ℕ) → clear-par-lts.Need-returns-5 (claims-clear-par t) (clear-par-at t) clear-par.Post
 clear-par-returns-5 t c = rw (sweep-par _ _ ((c .before .before .before .before .before .before .before .before .before .before .before .before .before .before .before .before .before .before .before .before .pre .1 .0) .place) _ _ (c .before .before .before .before .before .before .before .before .before .before .before .before .before .before .before .before .before .before .before .before .args .and) (c .before .before .before .before .before .before .before .before .before .before .before .before .before .before .before .before .before .before .before .before .pre .1 .1), eq-eqb _ _ (c .before .before .before .before .before .before .before .before .before .if1 .left), ← c .before .before .before .before .before .before .before .before .before .before .before .before .clear .ensures, ← c .before .before .before .before .before .before .before .before .second-at .ensures, ← c .before .before .before .clear2 .ensures, c .if3 .left)
 
 pub +clear+clear-either+clear-par-spec : {M : Type 1} → statement M
-+clear+clear-either+clear-par-spec = close μ-clear μ-clear-either μ-clear-par (λ t. clear-lts.spec (claims-clear t)
-    (clear-at t)
-    clear.Post
-    (clear-kind-at-requires t)
-    (clear-clear-either-requires t)
-    (clear-clear-either-requires-2 t)
-    (clear-add-clear t)
-    (clear-clear-requires t)
-    (clear-clear-par-requires t)
-    (clear-clear-par-requires-2 t)
-    (clear-mul-if1 t)
-    (clear-element-copy-out-if1 t)
++clear+clear-either+clear-par-spec = close μ-clear μ-clear-either μ-clear-par (λ t. clear-lts.spec (claims-clear t) (clear-at t) clear.Post
+    (λ c κs. ((c .before .before .pre .1) .place) .inside)
+    (λ c κs. (omega arith, ((c .before .before .before .before .before .before .before .before .pre .1), inl (sym (c .before .before .before .before .before .kind-at .ensures .0) ∙ c .before .before .before .before .match .keys1))))
+    (λ c κs. (omega arith, ((c .before .before .before .before .before .before .before .before .pre .1), inr (sym (c .before .before .before .before .before .kind-at .ensures .0) ∙ c .before .before .before .before .match .keys2))))
+    (λ c. omega (arith, ((c .before .before .before .before .pre .1) .place) .inside, (c .before .before .before .before .pre .1) .small))
+    (λ c κs. down _ _ (c .before .before .before .before .before .before .before .before .pre .1) (omega (arith, c .before .before .before .before .before .before .before .before .pre .0)) (children 14 (sym (c .before .before .before .before .before .kind-at .ensures .0) ∙ c .before .before .before .before .match .keys3) tt))
+    (λ c κs. (omega arith, ((c .before .before .before .before .before .before .before .before .pre .1), (sym (c .before .before .before .before .before .kind-at .ensures .0) ∙ c .before .before .before .before .match .keys4))))
+    (λ c κs. (omega arith, ((c .before .before .before .before .before .before .before .before .pre .1), (sym (c .before .before .before .before .before .kind-at .ensures .0) ∙ c .before .before .before .before .match .keys5))))
+    (λ c. omega (arith, ((c .before .before .before .before .pre .1) .place) .inside, (c .before .before .before .before .pre .1) .small))
+    (λ c. omega (arith, ((c .before .before .before .before .pre .1) .place) .inside, (c .before .before .before .before .pre .1) .small))
     (clear-returns t)
-    (clear-mul-st t)
-    (clear-element-write-st t)
-    (clear-add-settle t)
-    (clear-settle-requires t)
-    (clear-clear-one-requires t)
-    (clear-same-length t)
+    (λ c. omega (arith, ((c .before .before .before .before .before .before .pre .1) .place) .inside, (c .before .before .before .before .before .before .pre .1) .small))
+    (λ c. omega (arith, ((c .before .before .before .before .before .before .pre .1) .place) .inside, (c .before .before .before .before .before .before .pre .1) .small))
+    (λ c. omega (arith, ((c .before .before .before .before .before .before .pre .1) .place) .inside, (c .before .before .before .before .before .before .pre .1) .small))
+    (λ c κs. spot-down _ _ (c .before .before .before .before .before .before .before .before .before .pre .1) (children 19 (sym (c .before .before .before .before .before .before .kind-at .ensures .0) ∙ c .before .before .before .before .before .match .keys6) tt))
+    (λ c κs. omega (arith, ((c .before .before .before .before .before .pre .1) .place) .inside, (c .before .before .before .before .before .pre .1) .small))
+    (λ c. search needs)
     (clear-returns-2 t)
-    (clear-same-length-2 t)
+    (λ c. search needs)
     (clear-returns-3 t)
-    (clear-same-length-3 t)
+    (λ c. search needs)
     (clear-returns-4 t)
-    (clear-same-length-4 t)
+    (λ c. search needs)
     (clear-returns-5 t)
-    (clear-same-length-5 t)
+    (λ c. search needs)
     (clear-returns-6 t)
-    (clear-same-length-6 t)
+    (λ c. search needs)
     (clear-returns-7 t)
     (clear-returns-8 t))
-    (λ t. clear-either-lts.spec (
-      clear-below t,
-      clear.Post,
-      second-at-reads.Asked,
-      second-at-reads.Learnt,
-    )
-    (clear-either-at t)
-    clear-either.Post
-    (clear-either-add-clear t)
-    (clear-either-clear-requires t)
-    (clear-either-same-length t)
+    (λ t. clear-either-lts.spec (claims-clear-either t) (clear-either-at t) clear-either.Post
+    (λ c. omega (arith, ((c .before .before .pre .1 .0) .place) .inside, (c .before .before .pre .1 .0) .small))
+    (λ c κs. down _ _ (c .before .before .before .before .before .before .pre .1 .0) (omega (arith, c .before .before .before .before .before .before .pre .0)) (omega (arith, either-children (c .before .before .before .before .before .before .pre .1 .1))))
+    (λ c. search needs)
     (clear-either-returns t)
-    (clear-either-second-at-requires t)
-    (clear-either-clear-requires-2 t)
-    (clear-either-same-length-2 t)
+    (λ c κs. spot-down _ _ (c .before .before .before .before .before .before .before .before .before .before .pre .1 .0) (omega (arith, either-children (c .before .before .before .before .before .before .before .before .before .before .pre .1 .1))) .place .inside)
+    (λ c κs. next _ _ (c .before .before .before .before .before .before .before .before .before .before .before .before .before .before .before .pre .1 .0) (omega (arith, c .before .before .before .before .before .before .before .before .before .before .before .before .before .before .before .pre .0)) (either-children (c .before .before .before .before .before .before .before .before .before .before .before .before .before .before .before .pre .1 .1)) (c .before .before .before .before .second-at .ensures))
+    (λ c. search needs)
     (clear-either-returns-2 t))
-    λ t. clear-par-lts.spec (
-      clear-below t,
-      clear.Post,
-      tick-reads.Asked,
-      tick-reads.Learnt,
-      second-at-reads.Asked,
-      second-at-reads.Learnt,
-    )
-    (clear-par-at t)
-    clear-par.Post
-    (clear-par-mul-held t)
-    (clear-par-element-copy-out-held t)
-    (clear-par-mul-st t)
-    (clear-par-element-write-st t)
-    (clear-par-add-clear t)
-    (clear-par-clear-requires t)
-    (clear-par-tick-requires t)
-    (clear-par-same-length t)
+    λ t. clear-par-lts.spec (claims-clear-par t) (clear-par-at t) clear-par.Post
+    (λ c. omega (arith, ((c .before .before .pre .1 .0) .place) .inside, (c .before .before .pre .1 .0) .small))
+    (λ c. omega (arith, ((c .before .before .pre .1 .0) .place) .inside, (c .before .before .pre .1 .0) .small))
+    (λ c. omega (arith, ((c .before .before .before .pre .1 .0) .place) .inside, (c .before .before .before .pre .1 .0) .small))
+    (λ c. omega (arith, ((c .before .before .before .pre .1 .0) .place) .inside, (c .before .before .before .pre .1 .0) .small))
+    (λ c. omega (arith, ((c .before .before .before .pre .1 .0) .place) .inside, (c .before .before .before .pre .1 .0) .small))
+    (λ c κs. down _ _ (c .before .before .before .before .before .before .before .pre .1 .0) (omega (arith, c .before .before .before .before .before .before .before .pre .0)) (omega (arith, (par-children (c .before .before .before .before .before .before .before .args .and) (c .before .before .before .before .before .before .before .pre .1 .1)))))
+    (λ c κs. tt)
+    (λ c. search needs)
     (clear-par-returns t)
-    (clear-par-same-length-2 t)
+    (λ c. search needs)
     (clear-par-returns-2 t)
-    (clear-par-second-at-requires t)
-    (clear-par-clear-requires-2 t)
-    (clear-par-tick-requires-2 t)
-    (clear-par-same-length-3 t)
+    (λ c κs. spot-down _ _ (c .before .before .before .before .before .before .before .before .before .before .before .pre .1 .0) (omega (arith, (par-children (c .before .before .before .before .before .before .before .before .before .before .before .args .and) (c .before .before .before .before .before .before .before .before .before .before .before .pre .1 .1)))) .place .inside)
+    (λ c κs. next _ _ (c .before .before .before .before .before .before .before .before .before .before .before .before .before .before .before .before .pre .1 .0) (omega (arith, c .before .before .before .before .before .before .before .before .before .before .before .before .before .before .before .before .pre .0)) (par-children (c .before .before .before .before .before .before .before .before .before .before .before .before .before .before .before .before .args .and) (c .before .before .before .before .before .before .before .before .before .before .before .before .before .before .before .before .pre .1 .1)) (c .before .before .before .before .second-at .ensures))
+    (λ c κs. tt)
+    (λ c. search needs)
     (clear-par-returns-3 t)
-    (clear-par-same-length-4 t)
+    (λ c. search needs)
     (clear-par-returns-4 t)
-    (clear-par-same-length-5 t)
+    (λ c. search needs)
     (clear-par-returns-5 t)

@@ -1,29 +1,9 @@
+-- `after_body` ends a loop whose body has broken, with one step.
+-- Assumes nothing.
 use borrow.Author.Needs.{needs}
 use Rattle.engine.proofs.Fresh.{walk-memory}
-use borrow.Author.Needs.{needs}
 use Rattle.engine.proofs.exec.after_body.Statement.{statement}
 use Rattle.engine.proofs.exec.after_body.Tie as tie
-use Rattle.engine.proofs.exec.after_body.Reads as reads
-use Rattle.engine.proofs.exec.after_body.Lts as lts
-use Rattle.memory.proofs.tick.Reads as tick-reads
-
-enum-told : tie.Need-enum-told
-enum-told c = search needs
-
-enum-told-2 : tie.Need-enum-told-2
-enum-told-2 c = search needs
-
-enum-told-3 : tie.Need-enum-told-3
-enum-told-3 c = search needs
-
-tick-requires : tie.Need-tick-requires
-tick-requires c κs = search needs
-
-enum-told-4 : tie.Need-enum-told-4
-enum-told-4 c = search needs
-
-enum-known-how : tie.Need-enum-known-how
-enum-known-how c = search needs
 
 returns : tie.Need-returns
 returns c = λ l v o. rw (c .enum-told .given .1)
@@ -44,12 +24,12 @@ pub after-body-spec : {M : Type 1} → statement M
 after-body-spec =
     tie.close
     (tie.spec
-    enum-told
-    enum-told-2
-    enum-told-3
-    tick-requires
-    enum-told-4
-    enum-known-how
+    (λ c. search needs)
+    (λ c. search needs)
+    (λ c. search needs)
+    (λ c κs. search needs)
+    (λ c. search needs)
+    (λ c. search needs)
     returns
     returns-2
     returns-3

@@ -1,5 +1,7 @@
-use mathlib.Core.Path.{_≡_, sym, _∙_}
-use Prim.Native.Nat.{_*_, _+_}
+-- `resume` is the resume of the theory at the tree of its place. The measure: three for each record of the span, and the rank of the function.
+-- Assumes nothing.
+use mathlib.Core.Path.{sym, _∙_}
+use Prim.Native.Nat.{_*_, _+_, ℕ, _<_}
 use native.Mathlib.Omega.{arith}
 use borrow.Author.Needs.{needs}
 use borrow.Author.Tests.{eq-eqb, ne-eqb}
@@ -8,7 +10,6 @@ use Rattle.rules.specs.Table.{spanAt}
 use Rattle.engine.proofs.Spots.{spot-down, spot-next, down, next, children, par-children}
 use Rattle.engine.proofs.Fresh.{walk-memory, exec-memory, then-right, two-ticks}
 use Rattle.engine.proofs.Live.{resume-await, resume-emit, resume-if, resume-seq, resume-loop, resume-every, resume-par, resume-fin, resume-rest, exec-loop-run, right-alone-run}
-use Prim.Native.Nat.{ℕ, _<_}
 use borrow.Fn.Kinds.{In}
 use borrow.Fn.PlainCycle.{Measures, is, falls, and}
 use Rattle.engine.proofs.resume.resume.Reads as resume
@@ -42,12 +43,8 @@ use Rattle.engine.proofs.resume.right_alone.Reads as right-alone-reads
 use Rattle.memory.proofs.tick.Reads as tick-reads
 use Rattle.table.proofs.kind_at.Reads as kind-at-reads
 use Rattle.table.proofs.second_at.Reads as second-at-reads
-use Rattle.engine.proofs.resume.+resume+resume_both+resume_if+resume_loop+resume_par+resume_seq.{
-  statement,
-}
-use Rattle.engine.proofs.resume.+resume+resume_both+resume_if+resume_loop+resume_par+resume_seq.Tie.{
-  close,
-}
+use Rattle.engine.proofs.resume.+resume+resume_both+resume_if+resume_loop+resume_par+resume_seq.{statement}
+use Rattle.engine.proofs.resume.+resume+resume_both+resume_if+resume_loop+resume_par+resume_seq.Tie.{close}
 
 abbrev μ-resume : Measures 5 resume-kinds.ps ℕ
 μ-resume κs a = spanAt (a .0 .now) (a .1 .0) * 3 + 2
@@ -74,103 +71,55 @@ abbrev resume-below : ℕ → In 5 resume-kinds.ps
 resume-below t = and 5 resume-kinds.ps (falls 5 resume-kinds.ps _<_ μ-resume t) resume.Pre
 
 abbrev resume-both-at : ℕ → In 5 resume-both-kinds.ps
-resume-both-at t =
-    and 5 resume-both-kinds.ps (is 5 resume-both-kinds.ps μ-resume-both t) resume-both.Pre
+resume-both-at t = and 5 resume-both-kinds.ps (is 5 resume-both-kinds.ps μ-resume-both t) resume-both.Pre
 
 abbrev resume-both-below : ℕ → In 5 resume-both-kinds.ps
-resume-both-below t =
-    and 5 resume-both-kinds.ps (falls 5 resume-both-kinds.ps _<_ μ-resume-both t) resume-both.Pre
+resume-both-below t = and 5 resume-both-kinds.ps (falls 5 resume-both-kinds.ps _<_ μ-resume-both t) resume-both.Pre
 
 abbrev resume-if-at : ℕ → In 5 resume-if-kinds.ps
 resume-if-at t = and 5 resume-if-kinds.ps (is 5 resume-if-kinds.ps μ-resume-if t) resume-if.Pre
 
 abbrev resume-if-below : ℕ → In 5 resume-if-kinds.ps
-resume-if-below t =
-    and 5 resume-if-kinds.ps (falls 5 resume-if-kinds.ps _<_ μ-resume-if t) resume-if.Pre
+resume-if-below t = and 5 resume-if-kinds.ps (falls 5 resume-if-kinds.ps _<_ μ-resume-if t) resume-if.Pre
 
 abbrev resume-loop-at : ℕ → In 5 resume-loop-kinds.ps
-resume-loop-at t =
-    and 5 resume-loop-kinds.ps (is 5 resume-loop-kinds.ps μ-resume-loop t) resume-loop.Pre
+resume-loop-at t = and 5 resume-loop-kinds.ps (is 5 resume-loop-kinds.ps μ-resume-loop t) resume-loop.Pre
 
 abbrev resume-loop-below : ℕ → In 5 resume-loop-kinds.ps
-resume-loop-below t =
-    and 5 resume-loop-kinds.ps (falls 5 resume-loop-kinds.ps _<_ μ-resume-loop t) resume-loop.Pre
+resume-loop-below t = and 5 resume-loop-kinds.ps (falls 5 resume-loop-kinds.ps _<_ μ-resume-loop t) resume-loop.Pre
 
 abbrev resume-par-at : ℕ → In 5 resume-par-kinds.ps
-resume-par-at t =
-    and 5 resume-par-kinds.ps (is 5 resume-par-kinds.ps μ-resume-par t) resume-par.Pre
+resume-par-at t = and 5 resume-par-kinds.ps (is 5 resume-par-kinds.ps μ-resume-par t) resume-par.Pre
 
 abbrev resume-par-below : ℕ → In 5 resume-par-kinds.ps
-resume-par-below t =
-    and 5 resume-par-kinds.ps (falls 5 resume-par-kinds.ps _<_ μ-resume-par t) resume-par.Pre
+resume-par-below t = and 5 resume-par-kinds.ps (falls 5 resume-par-kinds.ps _<_ μ-resume-par t) resume-par.Pre
 
 abbrev resume-seq-at : ℕ → In 5 resume-seq-kinds.ps
-resume-seq-at t =
-    and 5 resume-seq-kinds.ps (is 5 resume-seq-kinds.ps μ-resume-seq t) resume-seq.Pre
+resume-seq-at t = and 5 resume-seq-kinds.ps (is 5 resume-seq-kinds.ps μ-resume-seq t) resume-seq.Pre
 
 abbrev resume-seq-below : ℕ → In 5 resume-seq-kinds.ps
-resume-seq-below t =
-    and 5 resume-seq-kinds.ps (falls 5 resume-seq-kinds.ps _<_ μ-resume-seq t) resume-seq.Pre
+resume-seq-below t = and 5 resume-seq-kinds.ps (falls 5 resume-seq-kinds.ps _<_ μ-resume-seq t) resume-seq.Pre
 
 abbrev claims-resume : ℕ → resume-lts.Claims
-claims-resume t =
-    (kind-at-reads.Asked, kind-at-reads.Learnt, resume-await-reads.Asked, resume-await-reads.Learnt, resume-emit-reads.Asked, resume-emit-reads.Learnt, resume-if-below t, resume-if.Post, resume-seq-below t, resume-seq.Post, resume-loop-below t, resume-loop.Post, resume-every-reads.Asked, resume-every-reads.Learnt, resume-par-below t, resume-par.Post, resume-fin-reads.Asked, resume-fin-reads.Learnt)
+claims-resume t = (kind-at-reads.Asked, kind-at-reads.Learnt, resume-await-reads.Asked, resume-await-reads.Learnt, resume-emit-reads.Asked, resume-emit-reads.Learnt, resume-if-below t, resume-if.Post, resume-seq-below t, resume-seq.Post, resume-loop-below t, resume-loop.Post, resume-every-reads.Asked, resume-every-reads.Learnt, resume-par-below t, resume-par.Post, resume-fin-reads.Asked, resume-fin-reads.Learnt)
 
 abbrev claims-resume-both : ℕ → resume-both-lts.Claims
-claims-resume-both t =
-    (second-at-reads.Asked, second-at-reads.Learnt, resume-below t, resume.Post, right-alone-reads.Asked, right-alone-reads.Learnt, clear-reads.Asked, clear-reads.Learnt, tick-reads.Asked, tick-reads.Learnt, after-right-reads.Asked, after-right-reads.Learnt)
+claims-resume-both t = (second-at-reads.Asked, second-at-reads.Learnt, resume-below t, resume.Post, right-alone-reads.Asked, right-alone-reads.Learnt, clear-reads.Asked, clear-reads.Learnt, tick-reads.Asked, tick-reads.Learnt, after-right-reads.Asked, after-right-reads.Learnt)
 
 abbrev claims-resume-if : ℕ → resume-if-lts.Claims
-claims-resume-if t =
-    (resume-below t, resume.Post, second-at-reads.Asked, second-at-reads.Learnt)
+claims-resume-if t = (resume-below t, resume.Post, second-at-reads.Asked, second-at-reads.Learnt)
 
 abbrev claims-resume-loop : ℕ → resume-loop-lts.Claims
-claims-resume-loop t =
-    (resume-below t, resume.Post, tick-reads.Asked, tick-reads.Learnt, exec-reads.Asked, exec-reads.Learnt, after-body-reads.Asked, after-body-reads.Learnt)
+claims-resume-loop t = (resume-below t, resume.Post, tick-reads.Asked, tick-reads.Learnt, exec-reads.Asked, exec-reads.Learnt, after-body-reads.Asked, after-body-reads.Learnt)
 
 abbrev claims-resume-par : ℕ → resume-par-lts.Claims
-claims-resume-par t =
-    (resume-below t, resume.Post, resume-both-below t, resume-both.Post, resume-held-reads.Asked, resume-held-reads.Learnt)
+claims-resume-par t = (resume-below t, resume.Post, resume-both-below t, resume-both.Post, resume-held-reads.Asked, resume-held-reads.Learnt)
 
 abbrev claims-resume-seq : ℕ → resume-seq-lts.Claims
-claims-resume-seq t =
-    (resume-below t, resume.Post, second-at-reads.Asked, second-at-reads.Learnt, tick-reads.Asked, tick-reads.Learnt, exec-reads.Asked, exec-reads.Learnt)
-
-resume-kind-at-requires : (t : ℕ) → resume-lts.Need-kind-at-requires (claims-resume t) (resume-at t) resume.Post
-resume-kind-at-requires t c κs = ((c .before .before .pre .1) .place) .inside
-
-resume-resume-await-requires : (t : ℕ) → resume-lts.Need-resume-await-requires (claims-resume t) (resume-at t) resume.Post
-resume-resume-await-requires t c κs = omega (arith, ((c .before .before .before .before .before .pre .1) .place) .inside, (c .before .before .before .before .before .pre .1) .small)
-
-resume-resume-await-requires-2 : (t : ℕ) → resume-lts.Need-resume-await-requires-2 (claims-resume t) (resume-at t) resume.Post
-resume-resume-await-requires-2 t c κs = omega (arith, ((c .before .before .before .before .before .pre .1) .place) .inside, (c .before .before .before .before .before .pre .1) .small)
-
-resume-resume-emit-requires : (t : ℕ) → resume-lts.Need-resume-emit-requires (claims-resume t) (resume-at t) resume.Post
-resume-resume-emit-requires t c κs = omega (arith, ((c .before .before .before .before .before .before .pre .1) .place) .inside, (c .before .before .before .before .before .before .pre .1) .small)
-
-resume-resume-if-requires : (t : ℕ) → resume-lts.Need-resume-if-requires (claims-resume t) (resume-at t) resume.Post
-resume-resume-if-requires t c κs = (omega arith, ((c .before .before .before .before .before .before .before .before .pre .1), (sym (c .before .before .before .before .before .kind-at .ensures .0) ∙ c .before .before .before .before .match .keys4)))
-
-resume-resume-seq-requires : (t : ℕ) → resume-lts.Need-resume-seq-requires (claims-resume t) (resume-at t) resume.Post
-resume-resume-seq-requires t c κs = (omega arith, ((c .before .before .before .before .before .before .before .before .pre .1), (sym (c .before .before .before .before .before .kind-at .ensures .0) ∙ c .before .before .before .before .match .keys5)))
+claims-resume-seq t = (resume-below t, resume.Post, second-at-reads.Asked, second-at-reads.Learnt, tick-reads.Asked, tick-reads.Learnt, exec-reads.Asked, exec-reads.Learnt)
 
 resume-resume-loop-requires : (t : ℕ) → resume-lts.Need-resume-loop-requires (claims-resume t) (resume-at t) resume.Post
 resume-resume-loop-requires t c κs = (omega arith, ((c .before .before .before .before .before .before .before .before .pre .1), (sym (c .before .before .before .before .before .kind-at .ensures .0) ∙ c .before .before .before .before .match .keys6)))
-
-resume-resume-every-requires : (t : ℕ) → resume-lts.Need-resume-every-requires (claims-resume t) (resume-at t) resume.Post
-resume-resume-every-requires t c κs = ((c .before .before .before .before .before .before .before .before .pre .1), children 15 (sym (c .before .before .before .before .before .kind-at .ensures .0) ∙ c .before .before .before .before .match .keys7) tt)
-
-resume-resume-every-requires-2 : (t : ℕ) → resume-lts.Need-resume-every-requires-2 (claims-resume t) (resume-at t) resume.Post
-resume-resume-every-requires-2 t c κs = ((c .before .before .before .before .before .before .before .before .pre .1), children 16 (sym (c .before .before .before .before .before .kind-at .ensures .0) ∙ c .before .before .before .before .match .keys8) tt)
-
-resume-resume-par-requires : (t : ℕ) → resume-lts.Need-resume-par-requires (claims-resume t) (resume-at t) resume.Post
-resume-resume-par-requires t c κs = (omega arith, ((c .before .before .before .before .before .before .before .before .pre .1), (sym (c .before .before .before .before .before .kind-at .ensures .0) ∙ c .before .before .before .before .match .keys9)))
-
-resume-resume-par-requires-2 : (t : ℕ) → resume-lts.Need-resume-par-requires-2 (claims-resume t) (resume-at t) resume.Post
-resume-resume-par-requires-2 t c κs = (omega arith, ((c .before .before .before .before .before .before .before .before .pre .1), (sym (c .before .before .before .before .before .kind-at .ensures .0) ∙ c .before .before .before .before .match .keys10)))
-
-resume-resume-fin-requires : (t : ℕ) → resume-lts.Need-resume-fin-requires (claims-resume t) (resume-at t) resume.Post
-resume-resume-fin-requires t c κs = omega (arith, ((c .before .before .before .before .before .pre .1) .place) .inside, (c .before .before .before .before .before .pre .1) .small)
 
 resume-returns : (t : ℕ) → resume-lts.Need-returns (claims-resume t) (resume-at t) resume.Post
 resume-returns t c = rw (resume-await _ _ ((c .before .before .before .before .before .before .pre .1) .place) _ _ _ input (sym (c .before .before .before .kind-at .ensures .0) ∙ c .before .before .match .keys1)) (c .resume-await .ensures _)
@@ -181,44 +130,23 @@ resume-returns-2 t c = rw (resume-await _ _ ((c .before .before .before .before 
 resume-returns-3 : (t : ℕ) → resume-lts.Need-returns-3 (claims-resume t) (resume-at t) resume.Post
 resume-returns-3 t c = rw (resume-emit _ _ ((c .before .before .before .before .before .before .before .pre .1) .place) _ _ _ (sym (c .before .before .before .before .kind-at .ensures .0) ∙ c .before .before .before .match .keys3)) (c .resume-emit .ensures _ _)
 
-resume-same-length : (t : ℕ) → resume-lts.Need-same-length (claims-resume t) (resume-at t) resume.Post
-resume-same-length t c = search needs
-
 resume-returns-4 : (t : ℕ) → resume-lts.Need-returns-4 (claims-resume t) (resume-at t) resume.Post
 resume-returns-4 t c = c .before .before .resume-if .ensures
-
-resume-same-length-2 : (t : ℕ) → resume-lts.Need-same-length-2 (claims-resume t) (resume-at t) resume.Post
-resume-same-length-2 t c = search needs
 
 resume-returns-5 : (t : ℕ) → resume-lts.Need-returns-5 (claims-resume t) (resume-at t) resume.Post
 resume-returns-5 t c = c .before .before .resume-seq .ensures
 
-resume-same-length-3 : (t : ℕ) → resume-lts.Need-same-length-3 (claims-resume t) (resume-at t) resume.Post
-resume-same-length-3 t c = search needs
-
 resume-returns-6 : (t : ℕ) → resume-lts.Need-returns-6 (claims-resume t) (resume-at t) resume.Post
 resume-returns-6 t c = c .before .before .resume-loop .ensures
-
-resume-same-length-4 : (t : ℕ) → resume-lts.Need-same-length-4 (claims-resume t) (resume-at t) resume.Post
-resume-same-length-4 t c = search needs
 
 resume-returns-7 : (t : ℕ) → resume-lts.Need-returns-7 (claims-resume t) (resume-at t) resume.Post
 resume-returns-7 t c = rw (resume-every _ _ ((c .before .before .before .before .before .before .before .before .before .before .before .pre .1) .place) _ _ _ input (sym (c .before .before .before .before .before .before .before .before .kind-at .ensures .0) ∙ c .before .before .before .before .before .before .before .match .keys7)) (c .before .before .resume-every .ensures)
 
-resume-same-length-5 : (t : ℕ) → resume-lts.Need-same-length-5 (claims-resume t) (resume-at t) resume.Post
-resume-same-length-5 t c = search needs
-
 resume-returns-8 : (t : ℕ) → resume-lts.Need-returns-8 (claims-resume t) (resume-at t) resume.Post
 resume-returns-8 t c = rw (resume-every _ _ ((c .before .before .before .before .before .before .before .before .before .before .before .pre .1) .place) _ _ _ internal (sym (c .before .before .before .before .before .before .before .before .kind-at .ensures .0) ∙ c .before .before .before .before .before .before .before .match .keys8)) (c .before .before .resume-every2 .ensures)
 
-resume-same-length-6 : (t : ℕ) → resume-lts.Need-same-length-6 (claims-resume t) (resume-at t) resume.Post
-resume-same-length-6 t c = search needs
-
 resume-returns-9 : (t : ℕ) → resume-lts.Need-returns-9 (claims-resume t) (resume-at t) resume.Post
 resume-returns-9 t c = c .before .before .resume-par .ensures
-
-resume-same-length-7 : (t : ℕ) → resume-lts.Need-same-length-7 (claims-resume t) (resume-at t) resume.Post
-resume-same-length-7 t c = search needs
 
 resume-returns-10 : (t : ℕ) → resume-lts.Need-returns-10 (claims-resume t) (resume-at t) resume.Post
 resume-returns-10 t c = c .before .before .resume-par2 .ensures
@@ -231,92 +159,23 @@ resume-returns-12 t c =
     let r = rw (c .before .kind-at .ensures .0) at (c .match .rest) in
     sym (resume-rest _ _ ((c .before .before .before .before .pre .1) .place) _ _ _ (r .0 .0 .0 .0 .0 .0 .0 .0 .0 .0 .1) (r .0 .0 .0 .0 .0 .0 .0 .0 .0 .1) (r .0 .0 .0 .0 .0 .0 .0 .0 .1) (r .0 .0 .0 .0 .0 .0 .0 .1) (r .0 .0 .0 .0 .0 .0 .1) (r .0 .0 .0 .0 .0 .1) (r .0 .0 .0 .0 .1) (r .0 .0 .0 .1) (r .0 .0 .1) (r .0 .1) (r .1))
 
-resume-both-second-at-requires : (t : ℕ) → resume-both-lts.Need-second-at-requires (claims-resume-both t) (resume-both-at t) resume-both.Post
-resume-both-second-at-requires t c κs = spot-down _ _ (c .before .before .pre .1 .0) (omega (arith, (par-children (c .before .before .args .and) (c .before .before .pre .1 .1)))) .place .inside
-
-resume-both-enum-told : (t : ℕ) → resume-both-lts.Need-enum-told (claims-resume-both t) (resume-both-at t) resume-both.Post
-resume-both-enum-told t c = search needs
-
-resume-both-resume-requires : (t : ℕ) → resume-both-lts.Need-resume-requires (claims-resume-both t) (resume-both-at t) resume-both.Post
-resume-both-resume-requires t c κs = next _ _ (c .before .before .before .before .before .before .before .before .before .pre .1 .0) (omega (arith, c .before .before .before .before .before .before .before .before .before .pre .0)) (par-children (c .before .before .before .before .before .before .before .before .before .args .and) (c .before .before .before .before .before .before .before .before .before .pre .1 .1)) (c .before .before .before .before .before .before .second-at .ensures)
-
-resume-both-enum-told-2 : (t : ℕ) → resume-both-lts.Need-enum-told-2 (claims-resume-both t) (resume-both-at t) resume-both.Post
-resume-both-enum-told-2 t c = search needs
-
-resume-both-resume-requires-2 : (t : ℕ) → resume-both-lts.Need-resume-requires-2 (claims-resume-both t) (resume-both-at t) resume-both.Post
-resume-both-resume-requires-2 t c κs = next _ _ (c .before .before .before .before .before .before .before .before .before .before .pre .1 .0) (omega (arith, c .before .before .before .before .before .before .before .before .before .before .pre .0)) (par-children (c .before .before .before .before .before .before .before .before .before .before .args .and) (c .before .before .before .before .before .before .before .before .before .before .pre .1 .1)) (c .before .before .before .before .before .before .before .second-at .ensures)
-
-resume-both-right-alone-requires : (t : ℕ) → resume-both-lts.Need-right-alone-requires (claims-resume-both t) (resume-both-at t) resume-both.Post
-resume-both-right-alone-requires t c κs = tt
-
-resume-both-same-length : (t : ℕ) → resume-both-lts.Need-same-length (claims-resume-both t) (resume-both-at t) resume-both.Post
-resume-both-same-length t c = search needs
-
 resume-both-returns : (t : ℕ) → resume-both-lts.Need-returns (claims-resume-both t) (resume-both-at t) resume-both.Post
 resume-both-returns t c = rw (c .before .before .before .before .before .before .before .before .before .before .enum-told2 .given .1, c .before .before .before .before .before .before .before .before .before .if1 .taken, ← c .before .before .before .before .before .before .before .before .before .before .before .before .second-at .ensures) (c .right-alone .ensures _ _ _ ∙ right-alone-run _ (c .before .before .before .before .resume2 .ensures))
-
-resume-both-clear-requires : (t : ℕ) → resume-both-lts.Need-clear-requires (claims-resume-both t) (resume-both-at t) resume-both.Post
-resume-both-clear-requires t c κs = spot-next _ _ (c .before .before .before .before .before .before .before .before .before .before .pre .1 .0) (par-children (c .before .before .before .before .before .before .before .before .before .before .args .and) (c .before .before .before .before .before .before .before .before .before .before .pre .1 .1)) (c .before .before .before .before .before .before .before .second-at .ensures)
-
-resume-both-tick-requires : (t : ℕ) → resume-both-lts.Need-tick-requires (claims-resume-both t) (resume-both-at t) resume-both.Post
-resume-both-tick-requires t c κs = tt
-
-resume-both-same-length-2 : (t : ℕ) → resume-both-lts.Need-same-length-2 (claims-resume-both t) (resume-both-at t) resume-both.Post
-resume-both-same-length-2 t c = search needs
 
 resume-both-returns-2 : (t : ℕ) → resume-both-lts.Need-returns-2 (claims-resume-both t) (resume-both-at t) resume-both.Post
 resume-both-returns-2 t c = rw (c .before .before .before .before .before .before .before .before .before .before .before .enum-told2 .given .1, c .before .before .before .before .before .before .before .before .before .before .if1 .left, ← c .before .before .before .before .before .before .before .before .before .before .before .before .before .second-at .ensures, ← c .before .before .before .before .before .clear .ensures, c .before .before .if2 .taken) (walk-memory (c .tick .ensures _ _))
 
-resume-both-enum-told-3 : (t : ℕ) → resume-both-lts.Need-enum-told-3 (claims-resume-both t) (resume-both-at t) resume-both.Post
-resume-both-enum-told-3 t c = search needs
-
-resume-both-clear-requires-2 : (t : ℕ) → resume-both-lts.Need-clear-requires-2 (claims-resume-both t) (resume-both-at t) resume-both.Post
-resume-both-clear-requires-2 t c κs = spot-next _ _ (c .before .before .before .before .before .before .before .before .before .pre .1 .0) (par-children (c .before .before .before .before .before .before .before .before .before .args .and) (c .before .before .before .before .before .before .before .before .before .pre .1 .1)) (c .before .before .before .before .before .before .second-at .ensures)
-
-resume-both-tick-requires-2 : (t : ℕ) → resume-both-lts.Need-tick-requires-2 (claims-resume-both t) (resume-both-at t) resume-both.Post
-resume-both-tick-requires-2 t c κs = tt
-
-resume-both-tick-requires-3 : (t : ℕ) → resume-both-lts.Need-tick-requires-3 (claims-resume-both t) (resume-both-at t) resume-both.Post
-resume-both-tick-requires-3 t c κs = tt
-
-resume-both-same-length-3 : (t : ℕ) → resume-both-lts.Need-same-length-3 (claims-resume-both t) (resume-both-at t) resume-both.Post
-resume-both-same-length-3 t c = search needs
-
 resume-both-returns-3 : (t : ℕ) → resume-both-lts.Need-returns-3 (claims-resume-both t) (resume-both-at t) resume-both.Post
 resume-both-returns-3 t c = rw (c .before .before .before .before .before .before .before .before .before .before .before .before .enum-told3 .given .1, ← c .before .before .before .before .before .before .before .before .before .before .before .before .before .before .second-at .ensures, ← c .before .before .before .before .before .before .before .clear2 .ensures, c .before .before .before .before .if3 .taken) (walk-memory (two-ticks _ _ (c .before .before .tick2 .ensures _ _) (c .tick3 .ensures _ _)))
-
-resume-both-enum-told-4 : (t : ℕ) → resume-both-lts.Need-enum-told-4 (claims-resume-both t) (resume-both-at t) resume-both.Post
-resume-both-enum-told-4 t c = search needs
-
-resume-both-resume-requires-3 : (t : ℕ) → resume-both-lts.Need-resume-requires-3 (claims-resume-both t) (resume-both-at t) resume-both.Post
-resume-both-resume-requires-3 t c κs = next _ _ (c .before .before .before .before .before .before .before .before .before .pre .1 .0) (omega (arith, c .before .before .before .before .before .before .before .before .before .pre .0)) (par-children (c .before .before .before .before .before .before .before .before .before .args .and) (c .before .before .before .before .before .before .before .before .before .pre .1 .1)) (c .before .before .before .before .before .before .second-at .ensures)
-
-resume-both-after-right-requires : (t : ℕ) → resume-both-lts.Need-after-right-requires (claims-resume-both t) (resume-both-at t) resume-both.Post
-resume-both-after-right-requires t c κs = ((c .before .before .before .before .before .before .before .before .before .before .before .before .before .before .before .before .pre .1 .0), (c .before .before .before .before .before .before .before .before .before .before .before .before .before .before .before .before .pre .1 .1))
-
-resume-both-enum-known-how : (t : ℕ) → resume-both-lts.Need-enum-known-how (claims-resume-both t) (resume-both-at t) resume-both.Post
-resume-both-enum-known-how t c = search needs
-
-resume-both-same-length-4 : (t : ℕ) → resume-both-lts.Need-same-length-4 (claims-resume-both t) (resume-both-at t) resume-both.Post
-resume-both-same-length-4 t c = search needs
 
 resume-both-returns-4 : (t : ℕ) → resume-both-lts.Need-returns-4 (claims-resume-both t) (resume-both-at t) resume-both.Post
 resume-both-returns-4 t c = rw (c .before .before .before .before .before .before .before .enum-told .given .1, ← c .before .before .before .before .before .before .before .before .before .second-at .ensures) (c .before .before .resume .ensures)
 
-resume-both-same-length-5 : (t : ℕ) → resume-both-lts.Need-same-length-5 (claims-resume-both t) (resume-both-at t) resume-both.Post
-resume-both-same-length-5 t c = search needs
-
 resume-both-returns-5 : (t : ℕ) → resume-both-lts.Need-returns-5 (claims-resume-both t) (resume-both-at t) resume-both.Post
 resume-both-returns-5 t c = rw (c .before .before .before .before .before .before .before .before .before .enum-told2 .given .1, c .before .before .before .before .before .before .before .before .if1 .left, ← c .before .before .before .before .before .before .before .before .before .before .before .second-at .ensures, ← c .before .before .before .clear .ensures, c .if2 .left)
 
-resume-both-same-length-6 : (t : ℕ) → resume-both-lts.Need-same-length-6 (claims-resume-both t) (resume-both-at t) resume-both.Post
-resume-both-same-length-6 t c = search needs
-
 resume-both-returns-6 : (t : ℕ) → resume-both-lts.Need-returns-6 (claims-resume-both t) (resume-both-at t) resume-both.Post
 resume-both-returns-6 t c = rw (c .before .before .before .before .before .before .before .before .enum-told3 .given .1, ← c .before .before .before .before .before .before .before .before .before .before .second-at .ensures, ← c .before .before .before .clear2 .ensures, c .if3 .left)
-
-resume-both-same-length-7 : (t : ℕ) → resume-both-lts.Need-same-length-7 (claims-resume-both t) (resume-both-at t) resume-both.Post
-resume-both-same-length-7 t c = search needs
 
 resume-both-returns-7 : (t : ℕ) → resume-both-lts.Need-returns-7 (claims-resume-both t) (resume-both-at t) resume-both.Post
 resume-both-returns-7 t c = rw (c .before .before .before .before .before .before .before .before .before .before .before .before .before .before .enum-told4 .given .1, ← c .before .before .before .before .before .before .before .before .before .before .before .before .before .before .before .before .second-at .ensures) (c .before .before .after-right .ensures ∙ then-right _ _ (c .before .before .before .before .before .before .before .before .before .resume3 .ensures))
@@ -324,227 +183,53 @@ resume-both-returns-7 t c = rw (c .before .before .before .before .before .befor
 resume-both-returns-8 : (t : ℕ) → resume-both-lts.Need-returns-8 (claims-resume-both t) (resume-both-at t) resume-both.Post
 resume-both-returns-8 t c = rw (c .before .how .given .1)
 
-resume-if-add-resume : (t : ℕ) → resume-if-lts.Need-add-resume (claims-resume-if t) (resume-if-at t) resume-if.Post
-resume-if-add-resume t c = omega (arith, ((c .before .before .pre .1 .0) .place) .inside, (c .before .before .pre .1 .0) .small)
-
-resume-if-resume-requires : (t : ℕ) → resume-if-lts.Need-resume-requires (claims-resume-if t) (resume-if-at t) resume-if.Post
-resume-if-resume-requires t c κs = down _ _ (c .before .before .before .before .before .before .pre .1 .0) (omega (arith, c .before .before .before .before .before .before .pre .0)) (children 12 (c .before .before .before .before .before .before .pre .1 .1) tt)
-
-resume-if-enum-told : (t : ℕ) → resume-if-lts.Need-enum-told (claims-resume-if t) (resume-if-at t) resume-if.Post
-resume-if-enum-told t c = search needs
-
-resume-if-second-at-requires : (t : ℕ) → resume-if-lts.Need-second-at-requires (claims-resume-if t) (resume-if-at t) resume-if.Post
-resume-if-second-at-requires t c κs = spot-down _ _ (c .before .before .before .before .before .before .before .before .before .before .before .pre .1 .0) (children 12 (c .before .before .before .before .before .before .before .before .before .before .before .pre .1 .1) tt) .place .inside
-
-resume-if-resume-requires-2 : (t : ℕ) → resume-if-lts.Need-resume-requires-2 (claims-resume-if t) (resume-if-at t) resume-if.Post
-resume-if-resume-requires-2 t c κs = next _ _ (c .before .before .before .before .before .before .before .before .before .before .before .before .before .before .before .before .pre .1 .0) (omega (arith, c .before .before .before .before .before .before .before .before .before .before .before .before .before .before .before .before .pre .0)) (children 12 (c .before .before .before .before .before .before .before .before .before .before .before .before .before .before .before .before .pre .1 .1) tt) (c .before .before .before .before .second-at .ensures)
-
-resume-if-enum-told-2 : (t : ℕ) → resume-if-lts.Need-enum-told-2 (claims-resume-if t) (resume-if-at t) resume-if.Post
-resume-if-enum-told-2 t c = search needs
-
-resume-if-enum-told-3 : (t : ℕ) → resume-if-lts.Need-enum-told-3 (claims-resume-if t) (resume-if-at t) resume-if.Post
-resume-if-enum-told-3 t c = search needs
-
-resume-if-enum-told-4 : (t : ℕ) → resume-if-lts.Need-enum-told-4 (claims-resume-if t) (resume-if-at t) resume-if.Post
-resume-if-enum-told-4 t c = search needs
-
-resume-if-enum-known-how : (t : ℕ) → resume-if-lts.Need-enum-known-how (claims-resume-if t) (resume-if-at t) resume-if.Post
-resume-if-enum-known-how t c = search needs
-
-resume-if-same-length : (t : ℕ) → resume-if-lts.Need-same-length (claims-resume-if t) (resume-if-at t) resume-if.Post
-resume-if-same-length t c = search needs
-
 resume-if-returns : (t : ℕ) → resume-if-lts.Need-returns (claims-resume-if t) (resume-if-at t) resume-if.Post
 resume-if-returns t c = rw (resume-if _ _ ((c .before .before .before .before .before .before .before .before .before .before .before .before .before .before .before .before .before .before .before .pre .1 .0) .place) _ _ _ (c .before .before .before .before .before .before .before .before .before .before .before .before .before .before .before .before .before .before .before .pre .1 .1), ← c .before .before .before .before .before .before .before .before .before .before .before .before .resume .ensures, c .before .before .before .before .before .before .before .before .enum-told .given .1, ← c .before .before .before .before .before .before .before .second-at .ensures) (c .before .before .resume2 .ensures)
-
-resume-if-same-length-2 : (t : ℕ) → resume-if-lts.Need-same-length-2 (claims-resume-if t) (resume-if-at t) resume-if.Post
-resume-if-same-length-2 t c = search needs
 
 resume-if-returns-2 : (t : ℕ) → resume-if-lts.Need-returns-2 (claims-resume-if t) (resume-if-at t) resume-if.Post
 resume-if-returns-2 t c = rw (resume-if _ _ ((c .before .before .before .before .before .before .before .before .before .before .before .pre .1 .0) .place) _ _ _ (c .before .before .before .before .before .before .before .before .before .before .before .pre .1 .1), ← c .before .before .before .before .resume .ensures, c .enum-told2 .given .1)
 
-resume-if-same-length-3 : (t : ℕ) → resume-if-lts.Need-same-length-3 (claims-resume-if t) (resume-if-at t) resume-if.Post
-resume-if-same-length-3 t c = search needs
-
 resume-if-returns-3 : (t : ℕ) → resume-if-lts.Need-returns-3 (claims-resume-if t) (resume-if-at t) resume-if.Post
 resume-if-returns-3 t c = rw (resume-if _ _ ((c .before .before .before .before .before .before .before .before .before .before .before .pre .1 .0) .place) _ _ _ (c .before .before .before .before .before .before .before .before .before .before .before .pre .1 .1), ← c .before .before .before .before .resume .ensures, c .enum-told3 .given .1)
-
-resume-if-same-length-4 : (t : ℕ) → resume-if-lts.Need-same-length-4 (claims-resume-if t) (resume-if-at t) resume-if.Post
-resume-if-same-length-4 t c = search needs
 
 resume-if-returns-4 : (t : ℕ) → resume-if-lts.Need-returns-4 (claims-resume-if t) (resume-if-at t) resume-if.Post
 resume-if-returns-4 t c = rw (resume-if _ _ ((c .before .before .before .before .before .before .before .before .before .before .before .pre .1 .0) .place) _ _ _ (c .before .before .before .before .before .before .before .before .before .before .before .pre .1 .1), ← c .before .before .before .before .resume .ensures, c .enum-told4 .given .1)
 
-resume-if-same-length-5 : (t : ℕ) → resume-if-lts.Need-same-length-5 (claims-resume-if t) (resume-if-at t) resume-if.Post
-resume-if-same-length-5 t c = search needs
-
 resume-if-returns-5 : (t : ℕ) → resume-if-lts.Need-returns-5 (claims-resume-if t) (resume-if-at t) resume-if.Post
 resume-if-returns-5 t c = rw (resume-if _ _ ((c .before .before .before .before .before .before .before .before .before .before .before .before .pre .1 .0) .place) _ _ _ (c .before .before .before .before .before .before .before .before .before .before .before .before .pre .1 .1), ← c .before .before .before .before .before .resume .ensures, c .before .how .given .1)
-
-resume-loop-add-resume : (t : ℕ) → resume-loop-lts.Need-add-resume (claims-resume-loop t) (resume-loop-at t) resume-loop.Post
-resume-loop-add-resume t c = omega (arith, ((c .before .before .pre .1 .0) .place) .inside, (c .before .before .pre .1 .0) .small)
-
-resume-loop-resume-requires : (t : ℕ) → resume-loop-lts.Need-resume-requires (claims-resume-loop t) (resume-loop-at t) resume-loop.Post
-resume-loop-resume-requires t c κs = down _ _ (c .before .before .before .before .before .before .pre .1 .0) (omega (arith, c .before .before .before .before .before .before .pre .0)) (children 14 (c .before .before .before .before .before .before .pre .1 .1) tt)
-
-resume-loop-enum-told : (t : ℕ) → resume-loop-lts.Need-enum-told (claims-resume-loop t) (resume-loop-at t) resume-loop.Post
-resume-loop-enum-told t c = search needs
-
-resume-loop-enum-told-2 : (t : ℕ) → resume-loop-lts.Need-enum-told-2 (claims-resume-loop t) (resume-loop-at t) resume-loop.Post
-resume-loop-enum-told-2 t c = search needs
-
-resume-loop-tick-requires : (t : ℕ) → resume-loop-lts.Need-tick-requires (claims-resume-loop t) (resume-loop-at t) resume-loop.Post
-resume-loop-tick-requires t c κs = tt
-
-resume-loop-tick-requires-2 : (t : ℕ) → resume-loop-lts.Need-tick-requires-2 (claims-resume-loop t) (resume-loop-at t) resume-loop.Post
-resume-loop-tick-requires-2 t c κs = tt
-
-resume-loop-add-exec : (t : ℕ) → resume-loop-lts.Need-add-exec (claims-resume-loop t) (resume-loop-at t) resume-loop.Post
-resume-loop-add-exec t c = omega (arith, ((c .before .before .before .before .before .before .before .before .before .before .before .before .before .before .before .pre .1 .0) .place) .inside, (c .before .before .before .before .before .before .before .before .before .before .before .before .before .before .before .pre .1 .0) .small)
-
-resume-loop-exec-requires : (t : ℕ) → resume-loop-lts.Need-exec-requires (claims-resume-loop t) (resume-loop-at t) resume-loop.Post
-resume-loop-exec-requires t c κs = spot-down _ _ (c .before .before .before .before .before .before .before .before .before .before .before .before .before .before .before .before .before .before .before .pre .1 .0) (children 14 (c .before .before .before .before .before .before .before .before .before .before .before .before .before .before .before .before .before .before .before .pre .1 .1) tt)
-
-resume-loop-after-body-requires : (t : ℕ) → resume-loop-lts.Need-after-body-requires (claims-resume-loop t) (resume-loop-at t) resume-loop.Post
-resume-loop-after-body-requires t c κs = tt
-
-resume-loop-enum-told-3 : (t : ℕ) → resume-loop-lts.Need-enum-told-3 (claims-resume-loop t) (resume-loop-at t) resume-loop.Post
-resume-loop-enum-told-3 t c = search needs
-
-resume-loop-tick-requires-3 : (t : ℕ) → resume-loop-lts.Need-tick-requires-3 (claims-resume-loop t) (resume-loop-at t) resume-loop.Post
-resume-loop-tick-requires-3 t c κs = tt
-
-resume-loop-enum-told-4 : (t : ℕ) → resume-loop-lts.Need-enum-told-4 (claims-resume-loop t) (resume-loop-at t) resume-loop.Post
-resume-loop-enum-told-4 t c = search needs
-
-resume-loop-enum-known-how : (t : ℕ) → resume-loop-lts.Need-enum-known-how (claims-resume-loop t) (resume-loop-at t) resume-loop.Post
-resume-loop-enum-known-how t c = search needs
-
-resume-loop-same-length : (t : ℕ) → resume-loop-lts.Need-same-length (claims-resume-loop t) (resume-loop-at t) resume-loop.Post
-resume-loop-same-length t c = search needs
 
 resume-loop-returns : (t : ℕ) → resume-loop-lts.Need-returns (claims-resume-loop t) (resume-loop-at t) resume-loop.Post
 resume-loop-returns t c = rw (resume-loop _ _ ((c .before .before .before .before .before .before .before .before .before .before .before .pre .1 .0) .place) _ _ _ (c .before .before .before .before .before .before .before .before .before .before .before .pre .1 .1), ← c .before .before .before .before .resume .ensures, c .enum-told .given .1)
 
-resume-loop-same-length-2 : (t : ℕ) → resume-loop-lts.Need-same-length-2 (claims-resume-loop t) (resume-loop-at t) resume-loop.Post
-resume-loop-same-length-2 t c = search needs
-
 resume-loop-returns-2 : (t : ℕ) → resume-loop-lts.Need-returns-2 (claims-resume-loop t) (resume-loop-at t) resume-loop.Post
 resume-loop-returns-2 t c = rw (resume-loop _ _ ((c .before .before .before .before .before .before .before .before .before .before .before .before .before .before .before .before .before .before .before .before .before .before .before .before .pre .1 .0) .place) _ _ _ (c .before .before .before .before .before .before .before .before .before .before .before .before .before .before .before .before .before .before .before .before .before .before .before .before .pre .1 .1), ← c .before .before .before .before .before .before .before .before .before .before .before .before .before .before .before .before .before .resume .ensures, c .before .before .before .before .before .before .before .before .before .before .before .before .before .enum-told2 .given .1) (c .after-body .ensures _ _ _ ∙ exec-loop-run _ (c .before .before .before .before .exec .ensures ∙ exec-memory _ _ _ (two-ticks _ _ (c .before .before .before .before .before .before .before .before .before .before .before .tick .ensures _ _) (c .before .before .before .before .before .before .before .before .before .tick2 .ensures _ _))))
-
-resume-loop-same-length-3 : (t : ℕ) → resume-loop-lts.Need-same-length-3 (claims-resume-loop t) (resume-loop-at t) resume-loop.Post
-resume-loop-same-length-3 t c = search needs
 
 resume-loop-returns-3 : (t : ℕ) → resume-loop-lts.Need-returns-3 (claims-resume-loop t) (resume-loop-at t) resume-loop.Post
 resume-loop-returns-3 t c = rw (resume-loop _ _ ((c .before .before .before .before .before .before .before .before .before .before .before .before .before .pre .1 .0) .place) _ _ _ (c .before .before .before .before .before .before .before .before .before .before .before .before .before .pre .1 .1), ← c .before .before .before .before .before .before .resume .ensures, c .before .before .enum-told3 .given .1) (walk-memory (c .tick3 .ensures _ _))
 
-resume-loop-same-length-4 : (t : ℕ) → resume-loop-lts.Need-same-length-4 (claims-resume-loop t) (resume-loop-at t) resume-loop.Post
-resume-loop-same-length-4 t c = search needs
-
 resume-loop-returns-4 : (t : ℕ) → resume-loop-lts.Need-returns-4 (claims-resume-loop t) (resume-loop-at t) resume-loop.Post
 resume-loop-returns-4 t c = rw (resume-loop _ _ ((c .before .before .before .before .before .before .before .before .before .before .before .pre .1 .0) .place) _ _ _ (c .before .before .before .before .before .before .before .before .before .before .before .pre .1 .1), ← c .before .before .before .before .resume .ensures, c .enum-told4 .given .1)
-
-resume-loop-same-length-5 : (t : ℕ) → resume-loop-lts.Need-same-length-5 (claims-resume-loop t) (resume-loop-at t) resume-loop.Post
-resume-loop-same-length-5 t c = search needs
 
 resume-loop-returns-5 : (t : ℕ) → resume-loop-lts.Need-returns-5 (claims-resume-loop t) (resume-loop-at t) resume-loop.Post
 resume-loop-returns-5 t c = rw (resume-loop _ _ ((c .before .before .before .before .before .before .before .before .before .before .before .before .pre .1 .0) .place) _ _ _ (c .before .before .before .before .before .before .before .before .before .before .before .before .pre .1 .1), ← c .before .before .before .before .before .resume .ensures, c .before .how .given .1)
 
-resume-par-mul-held : (t : ℕ) → resume-par-lts.Need-mul-held (claims-resume-par t) (resume-par-at t) resume-par.Post
-resume-par-mul-held t c = omega (arith, ((c .before .before .pre .1 .0) .place) .inside, (c .before .before .pre .1 .0) .small)
-
-resume-par-element-copy-out-held : (t : ℕ) → resume-par-lts.Need-element-copy-out-held (claims-resume-par t) (resume-par-at t) resume-par.Post
-resume-par-element-copy-out-held t c = omega (arith, ((c .before .before .pre .1 .0) .place) .inside, (c .before .before .pre .1 .0) .small)
-
-resume-par-add-resume : (t : ℕ) → resume-par-lts.Need-add-resume (claims-resume-par t) (resume-par-at t) resume-par.Post
-resume-par-add-resume t c = omega (arith, ((c .before .before .before .pre .1 .0) .place) .inside, (c .before .before .before .pre .1 .0) .small)
-
-resume-par-resume-requires : (t : ℕ) → resume-par-lts.Need-resume-requires (claims-resume-par t) (resume-par-at t) resume-par.Post
-resume-par-resume-requires t c κs = down _ _ (c .before .before .before .before .before .before .before .pre .1 .0) (omega (arith, c .before .before .before .before .before .before .before .pre .0)) (omega (arith, (par-children (c .before .before .before .before .before .before .before .args .and) (c .before .before .before .before .before .before .before .pre .1 .1))))
-
-resume-par-resume-both-requires : (t : ℕ) → resume-par-lts.Need-resume-both-requires (claims-resume-par t) (resume-par-at t) resume-par.Post
-resume-par-resume-both-requires t c κs = (omega (arith, c .before .before .before .before .before .before .before .before .before .before .before .before .before .before .before .pre .0), ((c .before .before .before .before .before .before .before .before .before .before .before .before .before .before .before .pre .1 .0), (c .before .before .before .before .before .before .before .before .before .before .before .before .before .before .before .pre .1 .1)))
-
-resume-par-same-length : (t : ℕ) → resume-par-lts.Need-same-length (claims-resume-par t) (resume-par-at t) resume-par.Post
-resume-par-same-length t c = search needs
-
 resume-par-returns : (t : ℕ) → resume-par-lts.Need-returns (claims-resume-par t) (resume-par-at t) resume-par.Post
 resume-par-returns t c = rw (resume-par _ _ ((c .before .before .before .before .before .before .before .before .before .before .before .before .before .before .before .before .before .before .pre .1 .0) .place) _ _ _ (c .before .before .before .before .before .before .before .before .before .before .before .before .before .before .before .before .before .before .args .and) (c .before .before .before .before .before .before .before .before .before .before .before .before .before .before .before .before .before .before .pre .1 .1), ← c .before .before .before .before .before .before .before .before .before .before .resume .ensures, eq-eqb _ _ (c .before .before .before .before .before .before .before .if1 .taken)) (c .before .before .resume-both .ensures)
-
-resume-par-resume-held-requires : (t : ℕ) → resume-par-lts.Need-resume-held-requires (claims-resume-par t) (resume-par-at t) resume-par.Post
-resume-par-resume-held-requires t c κs = ((c .before .before .before .before .before .before .before .before .before .before .before .before .before .before .before .pre .1 .0), (c .before .before .before .before .before .before .before .before .before .before .before .before .before .before .before .pre .1 .1))
-
-resume-par-same-length-2 : (t : ℕ) → resume-par-lts.Need-same-length-2 (claims-resume-par t) (resume-par-at t) resume-par.Post
-resume-par-same-length-2 t c = search needs
 
 resume-par-returns-2 : (t : ℕ) → resume-par-lts.Need-returns-2 (claims-resume-par t) (resume-par-at t) resume-par.Post
 resume-par-returns-2 t c = rw (resume-par _ _ ((c .before .before .before .before .before .before .before .before .before .before .before .before .before .before .before .before .before .before .pre .1 .0) .place) _ _ _ (c .before .before .before .before .before .before .before .before .before .before .before .before .before .before .before .before .before .before .args .and) (c .before .before .before .before .before .before .before .before .before .before .before .before .before .before .before .before .before .before .pre .1 .1), ← c .before .before .before .before .before .before .before .before .before .before .resume .ensures, ne-eqb _ _ (c .before .before .before .before .before .before .before .if1 .left)) (c .before .before .resume-held .ensures)
 
-resume-seq-add-resume : (t : ℕ) → resume-seq-lts.Need-add-resume (claims-resume-seq t) (resume-seq-at t) resume-seq.Post
-resume-seq-add-resume t c = omega (arith, ((c .before .before .pre .1 .0) .place) .inside, (c .before .before .pre .1 .0) .small)
-
-resume-seq-resume-requires : (t : ℕ) → resume-seq-lts.Need-resume-requires (claims-resume-seq t) (resume-seq-at t) resume-seq.Post
-resume-seq-resume-requires t c κs = down _ _ (c .before .before .before .before .before .before .pre .1 .0) (omega (arith, c .before .before .before .before .before .before .pre .0)) (children 13 (c .before .before .before .before .before .before .pre .1 .1) tt)
-
-resume-seq-enum-told : (t : ℕ) → resume-seq-lts.Need-enum-told (claims-resume-seq t) (resume-seq-at t) resume-seq.Post
-resume-seq-enum-told t c = search needs
-
-resume-seq-second-at-requires : (t : ℕ) → resume-seq-lts.Need-second-at-requires (claims-resume-seq t) (resume-seq-at t) resume-seq.Post
-resume-seq-second-at-requires t c κs = spot-down _ _ (c .before .before .before .before .before .before .before .before .before .before .before .pre .1 .0) (children 13 (c .before .before .before .before .before .before .before .before .before .before .before .pre .1 .1) tt) .place .inside
-
-resume-seq-resume-requires-2 : (t : ℕ) → resume-seq-lts.Need-resume-requires-2 (claims-resume-seq t) (resume-seq-at t) resume-seq.Post
-resume-seq-resume-requires-2 t c κs = next _ _ (c .before .before .before .before .before .before .before .before .before .before .before .before .before .before .before .before .pre .1 .0) (omega (arith, c .before .before .before .before .before .before .before .before .before .before .before .before .before .before .before .before .pre .0)) (children 13 (c .before .before .before .before .before .before .before .before .before .before .before .before .before .before .before .before .pre .1 .1) tt) (c .before .before .before .before .second-at .ensures)
-
-resume-seq-enum-told-2 : (t : ℕ) → resume-seq-lts.Need-enum-told-2 (claims-resume-seq t) (resume-seq-at t) resume-seq.Post
-resume-seq-enum-told-2 t c = search needs
-
-resume-seq-tick-requires : (t : ℕ) → resume-seq-lts.Need-tick-requires (claims-resume-seq t) (resume-seq-at t) resume-seq.Post
-resume-seq-tick-requires t c κs = tt
-
-resume-seq-second-at-requires-2 : (t : ℕ) → resume-seq-lts.Need-second-at-requires-2 (claims-resume-seq t) (resume-seq-at t) resume-seq.Post
-resume-seq-second-at-requires-2 t c κs = spot-down _ _ (c .before .before .before .before .before .before .before .before .before .before .before .before .before .pre .1 .0) (children 13 (c .before .before .before .before .before .before .before .before .before .before .before .before .before .pre .1 .1) tt) .place .inside
-
-resume-seq-exec-requires : (t : ℕ) → resume-seq-lts.Need-exec-requires (claims-resume-seq t) (resume-seq-at t) resume-seq.Post
-resume-seq-exec-requires t c κs = spot-next _ _ (c .before .before .before .before .before .before .before .before .before .before .before .before .before .before .before .before .before .before .pre .1 .0) (children 13 (c .before .before .before .before .before .before .before .before .before .before .before .before .before .before .before .before .before .before .pre .1 .1) tt) (c .before .before .before .before .second-at2 .ensures)
-
-resume-seq-enum-told-3 : (t : ℕ) → resume-seq-lts.Need-enum-told-3 (claims-resume-seq t) (resume-seq-at t) resume-seq.Post
-resume-seq-enum-told-3 t c = search needs
-
-resume-seq-tick-requires-2 : (t : ℕ) → resume-seq-lts.Need-tick-requires-2 (claims-resume-seq t) (resume-seq-at t) resume-seq.Post
-resume-seq-tick-requires-2 t c κs = tt
-
-resume-seq-enum-told-4 : (t : ℕ) → resume-seq-lts.Need-enum-told-4 (claims-resume-seq t) (resume-seq-at t) resume-seq.Post
-resume-seq-enum-told-4 t c = search needs
-
-resume-seq-enum-known-how : (t : ℕ) → resume-seq-lts.Need-enum-known-how (claims-resume-seq t) (resume-seq-at t) resume-seq.Post
-resume-seq-enum-known-how t c = search needs
-
-resume-seq-same-length : (t : ℕ) → resume-seq-lts.Need-same-length (claims-resume-seq t) (resume-seq-at t) resume-seq.Post
-resume-seq-same-length t c = search needs
-
 resume-seq-returns : (t : ℕ) → resume-seq-lts.Need-returns (claims-resume-seq t) (resume-seq-at t) resume-seq.Post
 resume-seq-returns t c = rw (resume-seq _ _ ((c .before .before .before .before .before .before .before .before .before .before .before .before .before .before .before .before .before .before .before .pre .1 .0) .place) _ _ _ (c .before .before .before .before .before .before .before .before .before .before .before .before .before .before .before .before .before .before .before .pre .1 .1), ← c .before .before .before .before .before .before .before .before .before .before .before .before .resume .ensures, c .before .before .before .before .before .before .before .before .enum-told .given .1, ← c .before .before .before .before .before .before .before .second-at .ensures) (c .before .before .resume2 .ensures)
-
-resume-seq-same-length-2 : (t : ℕ) → resume-seq-lts.Need-same-length-2 (claims-resume-seq t) (resume-seq-at t) resume-seq.Post
-resume-seq-same-length-2 t c = search needs
 
 resume-seq-returns-2 : (t : ℕ) → resume-seq-lts.Need-returns-2 (claims-resume-seq t) (resume-seq-at t) resume-seq.Post
 resume-seq-returns-2 t c = rw (resume-seq _ _ ((c .before .before .before .before .before .before .before .before .before .before .before .before .before .before .before .before .before .before .before .before .before .pre .1 .0) .place) _ _ _ (c .before .before .before .before .before .before .before .before .before .before .before .before .before .before .before .before .before .before .before .before .before .pre .1 .1), ← c .before .before .before .before .before .before .before .before .before .before .before .before .before .before .resume .ensures, c .before .before .before .before .before .before .before .before .before .before .enum-told2 .given .1, ← c .before .before .before .before .before .before .before .second-at2 .ensures) (c .before .before .exec .ensures ∙ exec-memory _ _ _ (c .before .before .before .before .before .before .before .before .tick .ensures _ _))
 
-resume-seq-same-length-3 : (t : ℕ) → resume-seq-lts.Need-same-length-3 (claims-resume-seq t) (resume-seq-at t) resume-seq.Post
-resume-seq-same-length-3 t c = search needs
-
 resume-seq-returns-3 : (t : ℕ) → resume-seq-lts.Need-returns-3 (claims-resume-seq t) (resume-seq-at t) resume-seq.Post
 resume-seq-returns-3 t c = rw (resume-seq _ _ ((c .before .before .before .before .before .before .before .before .before .before .before .before .before .pre .1 .0) .place) _ _ _ (c .before .before .before .before .before .before .before .before .before .before .before .before .before .pre .1 .1), ← c .before .before .before .before .before .before .resume .ensures, c .before .before .enum-told3 .given .1) (walk-memory (c .tick2 .ensures _ _))
 
-resume-seq-same-length-4 : (t : ℕ) → resume-seq-lts.Need-same-length-4 (claims-resume-seq t) (resume-seq-at t) resume-seq.Post
-resume-seq-same-length-4 t c = search needs
-
 resume-seq-returns-4 : (t : ℕ) → resume-seq-lts.Need-returns-4 (claims-resume-seq t) (resume-seq-at t) resume-seq.Post
 resume-seq-returns-4 t c = rw (resume-seq _ _ ((c .before .before .before .before .before .before .before .before .before .before .before .pre .1 .0) .place) _ _ _ (c .before .before .before .before .before .before .before .before .before .before .before .pre .1 .1), ← c .before .before .before .before .resume .ensures, c .enum-told4 .given .1)
-
-resume-seq-same-length-5 : (t : ℕ) → resume-seq-lts.Need-same-length-5 (claims-resume-seq t) (resume-seq-at t) resume-seq.Post
-resume-seq-same-length-5 t c = search needs
 
 resume-seq-returns-5 : (t : ℕ) → resume-seq-lts.Need-returns-5 (claims-resume-seq t) (resume-seq-at t) resume-seq.Post
 resume-seq-returns-5 t c = rw (resume-seq _ _ ((c .before .before .before .before .before .before .before .before .before .before .before .before .pre .1 .0) .place) _ _ _ (c .before .before .before .before .before .before .before .before .before .before .before .before .pre .1 .1), ← c .before .before .before .before .before .resume .ensures, c .before .how .given .1)
@@ -559,220 +244,146 @@ pub +resume+resume-both+resume-if+resume-loop+resume-par+resume-seq-spec :
     μ-resume-loop
     μ-resume-par
     μ-resume-seq
-    (λ t. resume-lts.spec (
-      kind-at-reads.Asked,
-      kind-at-reads.Learnt,
-      resume-await-reads.Asked,
-      resume-await-reads.Learnt,
-      resume-emit-reads.Asked,
-      resume-emit-reads.Learnt,
-      resume-if-below t,
-      resume-if.Post,
-      resume-seq-below t,
-      resume-seq.Post,
-      resume-loop-below t,
-      resume-loop.Post,
-      resume-every-reads.Asked,
-      resume-every-reads.Learnt,
-      resume-par-below t,
-      resume-par.Post,
-      resume-fin-reads.Asked,
-      resume-fin-reads.Learnt,
-    )
-    (resume-at t)
-    resume.Post
-    (resume-kind-at-requires t)
-    (resume-resume-await-requires t)
-    (resume-resume-await-requires-2 t)
-    (resume-resume-emit-requires t)
-    (resume-resume-if-requires t)
-    (resume-resume-seq-requires t)
+    (λ t. resume-lts.spec (claims-resume t) (resume-at t) resume.Post
+    (λ c κs. ((c .before .before .pre .1) .place) .inside)
+    (λ c κs. omega (arith, ((c .before .before .before .before .before .pre .1) .place) .inside, (c .before .before .before .before .before .pre .1) .small))
+    (λ c κs. omega (arith, ((c .before .before .before .before .before .pre .1) .place) .inside, (c .before .before .before .before .before .pre .1) .small))
+    (λ c κs. omega (arith, ((c .before .before .before .before .before .before .pre .1) .place) .inside, (c .before .before .before .before .before .before .pre .1) .small))
+    (λ c κs. (omega arith, ((c .before .before .before .before .before .before .before .before .pre .1), (sym (c .before .before .before .before .before .kind-at .ensures .0) ∙ c .before .before .before .before .match .keys4))))
+    (λ c κs. (omega arith, ((c .before .before .before .before .before .before .before .before .pre .1), (sym (c .before .before .before .before .before .kind-at .ensures .0) ∙ c .before .before .before .before .match .keys5))))
     (resume-resume-loop-requires t)
-    (resume-resume-every-requires t)
-    (resume-resume-every-requires-2 t)
-    (resume-resume-par-requires t)
-    (resume-resume-par-requires-2 t)
-    (resume-resume-fin-requires t)
+    (λ c κs. ((c .before .before .before .before .before .before .before .before .pre .1), children 15 (sym (c .before .before .before .before .before .kind-at .ensures .0) ∙ c .before .before .before .before .match .keys7) tt))
+    (λ c κs. ((c .before .before .before .before .before .before .before .before .pre .1), children 16 (sym (c .before .before .before .before .before .kind-at .ensures .0) ∙ c .before .before .before .before .match .keys8) tt))
+    (λ c κs. (omega arith, ((c .before .before .before .before .before .before .before .before .pre .1), (sym (c .before .before .before .before .before .kind-at .ensures .0) ∙ c .before .before .before .before .match .keys9))))
+    (λ c κs. (omega arith, ((c .before .before .before .before .before .before .before .before .pre .1), (sym (c .before .before .before .before .before .kind-at .ensures .0) ∙ c .before .before .before .before .match .keys10))))
+    (λ c κs. omega (arith, ((c .before .before .before .before .before .pre .1) .place) .inside, (c .before .before .before .before .before .pre .1) .small))
     (resume-returns t)
     (resume-returns-2 t)
     (resume-returns-3 t)
-    (resume-same-length t)
+    (λ c. search needs)
     (resume-returns-4 t)
-    (resume-same-length-2 t)
+    (λ c. search needs)
     (resume-returns-5 t)
-    (resume-same-length-3 t)
+    (λ c. search needs)
     (resume-returns-6 t)
-    (resume-same-length-4 t)
+    (λ c. search needs)
     (resume-returns-7 t)
-    (resume-same-length-5 t)
+    (λ c. search needs)
     (resume-returns-8 t)
-    (resume-same-length-6 t)
+    (λ c. search needs)
     (resume-returns-9 t)
-    (resume-same-length-7 t)
+    (λ c. search needs)
     (resume-returns-10 t)
     (resume-returns-11 t)
     (resume-returns-12 t))
-    (λ t. resume-both-lts.spec (
-      second-at-reads.Asked,
-      second-at-reads.Learnt,
-      resume-below t,
-      resume.Post,
-      right-alone-reads.Asked,
-      right-alone-reads.Learnt,
-      clear-reads.Asked,
-      clear-reads.Learnt,
-      tick-reads.Asked,
-      tick-reads.Learnt,
-      after-right-reads.Asked,
-      after-right-reads.Learnt,
-    )
-    (resume-both-at t)
-    resume-both.Post
-    (resume-both-second-at-requires t)
-    (resume-both-enum-told t)
-    (resume-both-resume-requires t)
-    (resume-both-enum-told-2 t)
-    (resume-both-resume-requires-2 t)
-    (resume-both-right-alone-requires t)
-    (resume-both-same-length t)
+    (λ t. resume-both-lts.spec (claims-resume-both t) (resume-both-at t) resume-both.Post
+    (λ c κs. spot-down _ _ (c .before .before .pre .1 .0) (omega (arith, (par-children (c .before .before .args .and) (c .before .before .pre .1 .1)))) .place .inside)
+    (λ c. search needs)
+    (λ c κs. next _ _ (c .before .before .before .before .before .before .before .before .before .pre .1 .0) (omega (arith, c .before .before .before .before .before .before .before .before .before .pre .0)) (par-children (c .before .before .before .before .before .before .before .before .before .args .and) (c .before .before .before .before .before .before .before .before .before .pre .1 .1)) (c .before .before .before .before .before .before .second-at .ensures))
+    (λ c. search needs)
+    (λ c κs. next _ _ (c .before .before .before .before .before .before .before .before .before .before .pre .1 .0) (omega (arith, c .before .before .before .before .before .before .before .before .before .before .pre .0)) (par-children (c .before .before .before .before .before .before .before .before .before .before .args .and) (c .before .before .before .before .before .before .before .before .before .before .pre .1 .1)) (c .before .before .before .before .before .before .before .second-at .ensures))
+    (λ c κs. tt)
+    (λ c. search needs)
     (resume-both-returns t)
-    (resume-both-clear-requires t)
-    (resume-both-tick-requires t)
-    (resume-both-same-length-2 t)
+    (λ c κs. spot-next _ _ (c .before .before .before .before .before .before .before .before .before .before .pre .1 .0) (par-children (c .before .before .before .before .before .before .before .before .before .before .args .and) (c .before .before .before .before .before .before .before .before .before .before .pre .1 .1)) (c .before .before .before .before .before .before .before .second-at .ensures))
+    (λ c κs. tt)
+    (λ c. search needs)
     (resume-both-returns-2 t)
-    (resume-both-enum-told-3 t)
-    (resume-both-clear-requires-2 t)
-    (resume-both-tick-requires-2 t)
-    (resume-both-tick-requires-3 t)
-    (resume-both-same-length-3 t)
+    (λ c. search needs)
+    (λ c κs. spot-next _ _ (c .before .before .before .before .before .before .before .before .before .pre .1 .0) (par-children (c .before .before .before .before .before .before .before .before .before .args .and) (c .before .before .before .before .before .before .before .before .before .pre .1 .1)) (c .before .before .before .before .before .before .second-at .ensures))
+    (λ c κs. tt)
+    (λ c κs. tt)
+    (λ c. search needs)
     (resume-both-returns-3 t)
-    (resume-both-enum-told-4 t)
-    (resume-both-resume-requires-3 t)
-    (resume-both-after-right-requires t)
-    (resume-both-enum-known-how t)
-    (resume-both-same-length-4 t)
+    (λ c. search needs)
+    (λ c κs. next _ _ (c .before .before .before .before .before .before .before .before .before .pre .1 .0) (omega (arith, c .before .before .before .before .before .before .before .before .before .pre .0)) (par-children (c .before .before .before .before .before .before .before .before .before .args .and) (c .before .before .before .before .before .before .before .before .before .pre .1 .1)) (c .before .before .before .before .before .before .second-at .ensures))
+    (λ c κs. ((c .before .before .before .before .before .before .before .before .before .before .before .before .before .before .before .before .pre .1 .0), (c .before .before .before .before .before .before .before .before .before .before .before .before .before .before .before .before .pre .1 .1)))
+    (λ c. search needs)
+    (λ c. search needs)
     (resume-both-returns-4 t)
-    (resume-both-same-length-5 t)
+    (λ c. search needs)
     (resume-both-returns-5 t)
-    (resume-both-same-length-6 t)
+    (λ c. search needs)
     (resume-both-returns-6 t)
-    (resume-both-same-length-7 t)
+    (λ c. search needs)
     (resume-both-returns-7 t)
     (resume-both-returns-8 t))
-    (λ t. resume-if-lts.spec (
-      resume-below t,
-      resume.Post,
-      second-at-reads.Asked,
-      second-at-reads.Learnt,
-    )
-    (resume-if-at t)
-    resume-if.Post
-    (resume-if-add-resume t)
-    (resume-if-resume-requires t)
-    (resume-if-enum-told t)
-    (resume-if-second-at-requires t)
-    (resume-if-resume-requires-2 t)
-    (resume-if-enum-told-2 t)
-    (resume-if-enum-told-3 t)
-    (resume-if-enum-told-4 t)
-    (resume-if-enum-known-how t)
-    (resume-if-same-length t)
+    (λ t. resume-if-lts.spec (claims-resume-if t) (resume-if-at t) resume-if.Post
+    (λ c. omega (arith, ((c .before .before .pre .1 .0) .place) .inside, (c .before .before .pre .1 .0) .small))
+    (λ c κs. down _ _ (c .before .before .before .before .before .before .pre .1 .0) (omega (arith, c .before .before .before .before .before .before .pre .0)) (children 12 (c .before .before .before .before .before .before .pre .1 .1) tt))
+    (λ c. search needs)
+    (λ c κs. spot-down _ _ (c .before .before .before .before .before .before .before .before .before .before .before .pre .1 .0) (children 12 (c .before .before .before .before .before .before .before .before .before .before .before .pre .1 .1) tt) .place .inside)
+    (λ c κs. next _ _ (c .before .before .before .before .before .before .before .before .before .before .before .before .before .before .before .before .pre .1 .0) (omega (arith, c .before .before .before .before .before .before .before .before .before .before .before .before .before .before .before .before .pre .0)) (children 12 (c .before .before .before .before .before .before .before .before .before .before .before .before .before .before .before .before .pre .1 .1) tt) (c .before .before .before .before .second-at .ensures))
+    (λ c. search needs)
+    (λ c. search needs)
+    (λ c. search needs)
+    (λ c. search needs)
+    (λ c. search needs)
     (resume-if-returns t)
-    (resume-if-same-length-2 t)
+    (λ c. search needs)
     (resume-if-returns-2 t)
-    (resume-if-same-length-3 t)
+    (λ c. search needs)
     (resume-if-returns-3 t)
-    (resume-if-same-length-4 t)
+    (λ c. search needs)
     (resume-if-returns-4 t)
-    (resume-if-same-length-5 t)
+    (λ c. search needs)
     (resume-if-returns-5 t))
-    (λ t. resume-loop-lts.spec (
-      resume-below t,
-      resume.Post,
-      tick-reads.Asked,
-      tick-reads.Learnt,
-      exec-reads.Asked,
-      exec-reads.Learnt,
-      after-body-reads.Asked,
-      after-body-reads.Learnt,
-    )
-    (resume-loop-at t)
-    resume-loop.Post
-    (resume-loop-add-resume t)
-    (resume-loop-resume-requires t)
-    (resume-loop-enum-told t)
-    (resume-loop-enum-told-2 t)
-    (resume-loop-tick-requires t)
-    (resume-loop-tick-requires-2 t)
-    (resume-loop-add-exec t)
-    (resume-loop-exec-requires t)
-    (resume-loop-after-body-requires t)
-    (resume-loop-enum-told-3 t)
-    (resume-loop-tick-requires-3 t)
-    (resume-loop-enum-told-4 t)
-    (resume-loop-enum-known-how t)
-    (resume-loop-same-length t)
+    (λ t. resume-loop-lts.spec (claims-resume-loop t) (resume-loop-at t) resume-loop.Post
+    (λ c. omega (arith, ((c .before .before .pre .1 .0) .place) .inside, (c .before .before .pre .1 .0) .small))
+    (λ c κs. down _ _ (c .before .before .before .before .before .before .pre .1 .0) (omega (arith, c .before .before .before .before .before .before .pre .0)) (children 14 (c .before .before .before .before .before .before .pre .1 .1) tt))
+    (λ c. search needs)
+    (λ c. search needs)
+    (λ c κs. tt)
+    (λ c κs. tt)
+    (λ c. omega (arith, ((c .before .before .before .before .before .before .before .before .before .before .before .before .before .before .before .pre .1 .0) .place) .inside, (c .before .before .before .before .before .before .before .before .before .before .before .before .before .before .before .pre .1 .0) .small))
+    (λ c κs. spot-down _ _ (c .before .before .before .before .before .before .before .before .before .before .before .before .before .before .before .before .before .before .before .pre .1 .0) (children 14 (c .before .before .before .before .before .before .before .before .before .before .before .before .before .before .before .before .before .before .before .pre .1 .1) tt))
+    (λ c κs. tt)
+    (λ c. search needs)
+    (λ c κs. tt)
+    (λ c. search needs)
+    (λ c. search needs)
+    (λ c. search needs)
     (resume-loop-returns t)
-    (resume-loop-same-length-2 t)
+    (λ c. search needs)
     (resume-loop-returns-2 t)
-    (resume-loop-same-length-3 t)
+    (λ c. search needs)
     (resume-loop-returns-3 t)
-    (resume-loop-same-length-4 t)
+    (λ c. search needs)
     (resume-loop-returns-4 t)
-    (resume-loop-same-length-5 t)
+    (λ c. search needs)
     (resume-loop-returns-5 t))
-    (λ t. resume-par-lts.spec (
-      resume-below t,
-      resume.Post,
-      resume-both-below t,
-      resume-both.Post,
-      resume-held-reads.Asked,
-      resume-held-reads.Learnt,
-    )
-    (resume-par-at t)
-    resume-par.Post
-    (resume-par-mul-held t)
-    (resume-par-element-copy-out-held t)
-    (resume-par-add-resume t)
-    (resume-par-resume-requires t)
-    (resume-par-resume-both-requires t)
-    (resume-par-same-length t)
+    (λ t. resume-par-lts.spec (claims-resume-par t) (resume-par-at t) resume-par.Post
+    (λ c. omega (arith, ((c .before .before .pre .1 .0) .place) .inside, (c .before .before .pre .1 .0) .small))
+    (λ c. omega (arith, ((c .before .before .pre .1 .0) .place) .inside, (c .before .before .pre .1 .0) .small))
+    (λ c. omega (arith, ((c .before .before .before .pre .1 .0) .place) .inside, (c .before .before .before .pre .1 .0) .small))
+    (λ c κs. down _ _ (c .before .before .before .before .before .before .before .pre .1 .0) (omega (arith, c .before .before .before .before .before .before .before .pre .0)) (omega (arith, (par-children (c .before .before .before .before .before .before .before .args .and) (c .before .before .before .before .before .before .before .pre .1 .1)))))
+    (λ c κs. (omega (arith, c .before .before .before .before .before .before .before .before .before .before .before .before .before .before .before .pre .0), ((c .before .before .before .before .before .before .before .before .before .before .before .before .before .before .before .pre .1 .0), (c .before .before .before .before .before .before .before .before .before .before .before .before .before .before .before .pre .1 .1))))
+    (λ c. search needs)
     (resume-par-returns t)
-    (resume-par-resume-held-requires t)
-    (resume-par-same-length-2 t)
+    (λ c κs. ((c .before .before .before .before .before .before .before .before .before .before .before .before .before .before .before .pre .1 .0), (c .before .before .before .before .before .before .before .before .before .before .before .before .before .before .before .pre .1 .1)))
+    (λ c. search needs)
     (resume-par-returns-2 t))
-    λ t. resume-seq-lts.spec (
-      resume-below t,
-      resume.Post,
-      second-at-reads.Asked,
-      second-at-reads.Learnt,
-      tick-reads.Asked,
-      tick-reads.Learnt,
-      exec-reads.Asked,
-      exec-reads.Learnt,
-    )
-    (resume-seq-at t)
-    resume-seq.Post
-    (resume-seq-add-resume t)
-    (resume-seq-resume-requires t)
-    (resume-seq-enum-told t)
-    (resume-seq-second-at-requires t)
-    (resume-seq-resume-requires-2 t)
-    (resume-seq-enum-told-2 t)
-    (resume-seq-tick-requires t)
-    (resume-seq-second-at-requires-2 t)
-    (resume-seq-exec-requires t)
-    (resume-seq-enum-told-3 t)
-    (resume-seq-tick-requires-2 t)
-    (resume-seq-enum-told-4 t)
-    (resume-seq-enum-known-how t)
-    (resume-seq-same-length t)
+    λ t. resume-seq-lts.spec (claims-resume-seq t) (resume-seq-at t) resume-seq.Post
+    (λ c. omega (arith, ((c .before .before .pre .1 .0) .place) .inside, (c .before .before .pre .1 .0) .small))
+    (λ c κs. down _ _ (c .before .before .before .before .before .before .pre .1 .0) (omega (arith, c .before .before .before .before .before .before .pre .0)) (children 13 (c .before .before .before .before .before .before .pre .1 .1) tt))
+    (λ c. search needs)
+    (λ c κs. spot-down _ _ (c .before .before .before .before .before .before .before .before .before .before .before .pre .1 .0) (children 13 (c .before .before .before .before .before .before .before .before .before .before .before .pre .1 .1) tt) .place .inside)
+    (λ c κs. next _ _ (c .before .before .before .before .before .before .before .before .before .before .before .before .before .before .before .before .pre .1 .0) (omega (arith, c .before .before .before .before .before .before .before .before .before .before .before .before .before .before .before .before .pre .0)) (children 13 (c .before .before .before .before .before .before .before .before .before .before .before .before .before .before .before .before .pre .1 .1) tt) (c .before .before .before .before .second-at .ensures))
+    (λ c. search needs)
+    (λ c κs. tt)
+    (λ c κs. spot-down _ _ (c .before .before .before .before .before .before .before .before .before .before .before .before .before .pre .1 .0) (children 13 (c .before .before .before .before .before .before .before .before .before .before .before .before .before .pre .1 .1) tt) .place .inside)
+    (λ c κs. spot-next _ _ (c .before .before .before .before .before .before .before .before .before .before .before .before .before .before .before .before .before .before .pre .1 .0) (children 13 (c .before .before .before .before .before .before .before .before .before .before .before .before .before .before .before .before .before .before .pre .1 .1) tt) (c .before .before .before .before .second-at2 .ensures))
+    (λ c. search needs)
+    (λ c κs. tt)
+    (λ c. search needs)
+    (λ c. search needs)
+    (λ c. search needs)
     (resume-seq-returns t)
-    (resume-seq-same-length-2 t)
+    (λ c. search needs)
     (resume-seq-returns-2 t)
-    (resume-seq-same-length-3 t)
+    (λ c. search needs)
     (resume-seq-returns-3 t)
-    (resume-seq-same-length-4 t)
+    (λ c. search needs)
     (resume-seq-returns-4 t)
-    (resume-seq-same-length-5 t)
+    (λ c. search needs)
     (resume-seq-returns-5 t)

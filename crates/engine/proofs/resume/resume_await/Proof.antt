@@ -1,34 +1,15 @@
+-- `resume_await` ends an await that is woken.
+-- Assumes nothing.
 use borrow.Author.Needs.{needs}
 use borrow.Author.Tests.{eq-eqb, ne-eqb}
-use borrow.Author.Needs.{needs}
 use Rattle.engine.proofs.resume.resume_await.Statement.{statement}
 use Rattle.engine.proofs.resume.resume_await.Tie as tie
-use Rattle.engine.proofs.resume.resume_await.Reads as reads
-use Rattle.engine.proofs.resume.resume_await.Lts as lts
-
-mul-if1 : tie.Need-mul-if1
-mul-if1 c = search needs
-
-element-copy-out-if1 : tie.Need-element-copy-out-if1
-element-copy-out-if1 c = search needs
 
 returns : tie.Need-returns
 returns c = λ m. rw (eq-eqb _ _ (c .if1 .taken))
 
-mul-if2 : tie.Need-mul-if2
-mul-if2 c = search needs
-
-element-copy-out-if2 : tie.Need-element-copy-out-if2
-element-copy-out-if2 c = search needs
-
 returns-2 : tie.Need-returns-2
 returns-2 c = λ m. rw (ne-eqb _ _ (c .before .before .if1 .left), eq-eqb _ _ (c .if2 .taken))
-
-mul-st : tie.Need-mul-st
-mul-st c = search needs
-
-element-write-st : tie.Need-element-write-st
-element-write-st c = search needs
 
 returns-3 : tie.Need-returns-3
 returns-3 c = λ m. rw (ne-eqb _ _ (c .before .before .if1 .left), ne-eqb _ _ (c .if2 .left))
@@ -37,12 +18,12 @@ pub resume-await-spec : {M : Type 1} → statement M
 resume-await-spec =
     tie.close
     (tie.spec
-    mul-if1
-    element-copy-out-if1
+    (λ c. search needs)
+    (λ c. search needs)
     returns
-    mul-if2
-    element-copy-out-if2
+    (λ c. search needs)
+    (λ c. search needs)
     returns-2
-    mul-st
-    element-write-st
+    (λ c. search needs)
+    (λ c. search needs)
     returns-3)

@@ -1,38 +1,9 @@
+-- `right_alone` counts the step of an and whose left has ended before its right.
+-- Assumes nothing.
 use borrow.Author.Needs.{needs}
 use Rattle.engine.proofs.Fresh.{walk-memory}
-use borrow.Author.Needs.{needs}
 use Rattle.engine.proofs.resume.right_alone.Statement.{statement}
 use Rattle.engine.proofs.resume.right_alone.Tie as tie
-use Rattle.engine.proofs.resume.right_alone.Reads as reads
-use Rattle.engine.proofs.resume.right_alone.Lts as lts
-use Rattle.memory.proofs.tick.Reads as tick-reads
-
-enum-told : tie.Need-enum-told
-enum-told c = search needs
-
-enum-told-2 : tie.Need-enum-told-2
-enum-told-2 c = search needs
-
-tick-requires : tie.Need-tick-requires
-tick-requires c κs = search needs
-
-enum-told-3 : tie.Need-enum-told-3
-enum-told-3 c = search needs
-
-tick-requires-2 : tie.Need-tick-requires-2
-tick-requires-2 c κs = search needs
-
-enum-told-4 : tie.Need-enum-told-4
-enum-told-4 c = search needs
-
-tick-requires-3 : tie.Need-tick-requires-3
-tick-requires-3 c κs = search needs
-
-enum-known-how : tie.Need-enum-known-how
-enum-known-how c = search needs
-
-tick-requires-4 : tie.Need-tick-requires-4
-tick-requires-4 c κs = search needs
 
 returns : tie.Need-returns
 returns c = λ l v o. rw (c .enum-told .given .1)
@@ -53,15 +24,15 @@ pub right-alone-spec : {M : Type 1} → statement M
 right-alone-spec =
     tie.close
     (tie.spec
-    enum-told
-    enum-told-2
-    tick-requires
-    enum-told-3
-    tick-requires-2
-    enum-told-4
-    tick-requires-3
-    enum-known-how
-    tick-requires-4
+    (λ c. search needs)
+    (λ c. search needs)
+    (λ c κs. search needs)
+    (λ c. search needs)
+    (λ c κs. search needs)
+    (λ c. search needs)
+    (λ c κs. search needs)
+    (λ c. search needs)
+    (λ c κs. search needs)
     returns
     returns-2
     returns-3

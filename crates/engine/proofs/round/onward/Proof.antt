@@ -1,32 +1,13 @@
+-- `onward` resumes the program where it is not blocked.
+-- Assumes nothing.
 use borrow.Author.Needs.{needs}
 use Rattle.theory.specs.Round.{onward}
-use borrow.Author.Needs.{needs}
 use Rattle.engine.proofs.round.onward.Statement.{statement}
 use Rattle.engine.proofs.round.onward.Tie as tie
-use Rattle.engine.proofs.round.onward.Reads as reads
-use Rattle.engine.proofs.round.onward.Lts as lts
-use Rattle.engine.proofs.resume.resume.Reads as resume-reads
-use Rattle.engine.proofs.round.event_of.Reads as event-of-reads
-use Rattle.engine.proofs.wake.blocked.Reads as blocked-reads
-
-add-n : tie.Need-add-n
-add-n c = search needs
-
-blocked-requires : tie.Need-blocked-requires
-blocked-requires c κs = search needs
 
 returns : tie.Need-returns
 unfolding onward
 returns c = rw (← c .before .blocked .ensures, c .if1 .taken)
-
-resume-requires : tie.Need-resume-requires
-resume-requires c κs = search needs
-
-event-of-requires : tie.Need-event-of-requires
-event-of-requires c κs = search needs
-
-same-length : tie.Need-same-length
-same-length c = search needs
 
 returns-2 : tie.Need-returns-2
 unfolding onward
@@ -36,10 +17,10 @@ pub onward-spec : {M : Type 1} → statement M
 onward-spec =
     tie.close
     (tie.spec
-    add-n
-    blocked-requires
+    (λ c. search needs)
+    (λ c κs. search needs)
     returns
-    resume-requires
-    event-of-requires
-    same-length
+    (λ c κs. search needs)
+    (λ c κs. search needs)
+    (λ c. search needs)
     returns-2)

@@ -1,11 +1,12 @@
-use mathlib.Core.Path.{_≡_, sym, _∙_}
-use Prim.Native.Nat.{_*_, _+_}
+-- `settle` is the settle of the theory at the tree of its place. The span falls at each call.
+-- Assumes nothing.
+use mathlib.Core.Path.{sym, _∙_}
+use Prim.Native.Nat.{_*_, _+_, ℕ, _<_}
 use native.Mathlib.Omega.{arith}
 use borrow.Author.Needs.{needs}
 use Rattle.rules.specs.Table.{spanAt}
 use Rattle.engine.proofs.Spots.{spot-down, down, next, children}
 use Rattle.engine.proofs.Clearing.{settle-if, settle-seq, settle-rest}
-use Prim.Native.Nat.{ℕ, _<_}
 use borrow.Fn.Kinds.{In}
 use borrow.Fn.PlainCycle.{Measures, is, falls, and}
 use Rattle.engine.proofs.settle.settle.Reads as settle
@@ -30,98 +31,41 @@ abbrev settle-below : ℕ → In 4 settle-kinds.ps
 settle-below t = and 4 settle-kinds.ps (falls 4 settle-kinds.ps _<_ μ-settle t) settle.Pre
 
 abbrev claims-settle : ℕ → settle-lts.Claims
-claims-settle t =
-    (kind-at-reads.Asked, kind-at-reads.Learnt, name-at-reads.Asked, name-at-reads.Learnt, is-nonzero-reads.Asked, is-nonzero-reads.Learnt, tick-reads.Asked, tick-reads.Learnt, settle-below t, settle.Post, second-at-reads.Asked, second-at-reads.Learnt, run-leaf-reads.Asked, run-leaf-reads.Learnt)
-
-settle-kind-at-requires : (t : ℕ) → settle-lts.Need-kind-at-requires (claims-settle t) (settle-at t) settle.Post
-settle-kind-at-requires t c κs = ((c .before .before .pre .1) .place) .inside
-
-settle-name-at-requires : (t : ℕ) → settle-lts.Need-name-at-requires (claims-settle t) (settle-at t) settle.Post
-settle-name-at-requires t c κs = ((c .before .before .before .before .pre .1) .place) .inside
-
-settle-is-nonzero-requires : (t : ℕ) → settle-lts.Need-is-nonzero-requires (claims-settle t) (settle-at t) settle.Post
-settle-is-nonzero-requires t c κs = tt
-
-settle-tick-requires : (t : ℕ) → settle-lts.Need-tick-requires (claims-settle t) (settle-at t) settle.Post
-settle-tick-requires t c κs = tt
-
-settle-add-settle : (t : ℕ) → settle-lts.Need-add-settle (claims-settle t) (settle-at t) settle.Post
-settle-add-settle t c = omega (arith, ((c .before .before .before .before .before .before .before .before .before .before .pre .1) .place) .inside, (c .before .before .before .before .before .before .before .before .before .before .pre .1) .small)
-
-settle-settle-requires : (t : ℕ) → settle-lts.Need-settle-requires (claims-settle t) (settle-at t) settle.Post
-settle-settle-requires t c κs = down _ _ (c .before .before .before .before .before .before .before .before .before .before .before .before .before .pre .1) (omega (arith, c .before .before .before .before .before .before .before .before .before .before .before .before .before .pre .0)) (children 12 (sym (c .before .before .before .before .before .before .before .before .before .before .kind-at .ensures .0) ∙ c .before .before .before .before .before .before .before .before .before .match .keys1) tt)
-
-settle-same-length : (t : ℕ) → settle-lts.Need-same-length (claims-settle t) (settle-at t) settle.Post
-settle-same-length t c = search needs
+claims-settle t = (kind-at-reads.Asked, kind-at-reads.Learnt, name-at-reads.Asked, name-at-reads.Learnt, is-nonzero-reads.Asked, is-nonzero-reads.Learnt, tick-reads.Asked, tick-reads.Learnt, settle-below t, settle.Post, second-at-reads.Asked, second-at-reads.Learnt, run-leaf-reads.Asked, run-leaf-reads.Learnt)
 
 settle-returns : (t : ℕ) → settle-lts.Need-returns (claims-settle t) (settle-at t) settle.Post
 settle-returns t c = rw (settle-if _ _ ((c .before .before .before .before .before .before .before .before .before .before .before .before .before .before .before .before .pre .1) .place) _ (sym (c .before .before .before .before .before .before .before .before .before .before .before .before .before .kind-at .ensures .0) ∙ c .before .before .before .before .before .before .before .before .before .before .before .before .match .keys1), ← c .before .before .before .before .before .before .before .before .before .before .before .name-at .ensures .0, ← c .before .before .before .before .before .before .before .before .before .is-nonzero .ensures _ _, ← c .before .before .before .before .before .before .before .tick .ensures _ _, c .before .before .before .before .before .before .if1 .taken) (c .before .before .settle .ensures)
 
-settle-second-at-requires : (t : ℕ) → settle-lts.Need-second-at-requires (claims-settle t) (settle-at t) settle.Post
-settle-second-at-requires t c κs = spot-down _ _ (c .before .before .before .before .before .before .before .before .before .before .pre .1) (children 12 (sym (c .before .before .before .before .before .before .before .kind-at .ensures .0) ∙ c .before .before .before .before .before .before .match .keys1) tt) .place .inside
-
-settle-settle-requires-2 : (t : ℕ) → settle-lts.Need-settle-requires-2 (claims-settle t) (settle-at t) settle.Post
-settle-settle-requires-2 t c κs = next _ _ (c .before .before .before .before .before .before .before .before .before .before .before .before .before .before .pre .1) (omega (arith, c .before .before .before .before .before .before .before .before .before .before .before .before .before .before .pre .0)) (children 12 (sym (c .before .before .before .before .before .before .before .before .before .before .before .kind-at .ensures .0) ∙ c .before .before .before .before .before .before .before .before .before .before .match .keys1) tt) (c .before .before .before .second-at .ensures)
-
-settle-add-settle-2 : (t : ℕ) → settle-lts.Need-add-settle-2 (claims-settle t) (settle-at t) settle.Post
-settle-add-settle-2 t c = omega (arith, ((c .before .before .before .before .pre .1) .place) .inside, (c .before .before .before .before .pre .1) .small)
-
-settle-settle-requires-3 : (t : ℕ) → settle-lts.Need-settle-requires-3 (claims-settle t) (settle-at t) settle.Post
-settle-settle-requires-3 t c κs = down _ _ (c .before .before .before .before .before .before .before .pre .1) (omega (arith, c .before .before .before .before .before .before .before .pre .0)) (children 13 (sym (c .before .before .before .before .kind-at .ensures .0) ∙ c .before .before .before .match .keys2) tt)
-
-settle-tick-requires-2 : (t : ℕ) → settle-lts.Need-tick-requires-2 (claims-settle t) (settle-at t) settle.Post
-settle-tick-requires-2 t c κs = tt
-
-settle-second-at-requires-2 : (t : ℕ) → settle-lts.Need-second-at-requires-2 (claims-settle t) (settle-at t) settle.Post
-settle-second-at-requires-2 t c κs = spot-down _ _ (c .before .before .before .before .before .before .before .before .before .before .before .before .pre .1) (children 13 (sym (c .before .before .before .before .before .before .before .before .before .kind-at .ensures .0) ∙ c .before .before .before .before .before .before .before .before .match .keys2) tt) .place .inside
-
-settle-settle-requires-4 : (t : ℕ) → settle-lts.Need-settle-requires-4 (claims-settle t) (settle-at t) settle.Post
-settle-settle-requires-4 t c κs = next _ _ (c .before .before .before .before .before .before .before .before .before .before .before .before .before .before .before .before .pre .1) (omega (arith, c .before .before .before .before .before .before .before .before .before .before .before .before .before .before .before .before .pre .0)) (children 13 (sym (c .before .before .before .before .before .before .before .before .before .before .before .before .before .kind-at .ensures .0) ∙ c .before .before .before .before .before .before .before .before .before .before .before .before .match .keys2) tt) (c .before .before .before .second-at2 .ensures)
-
-settle-run-leaf-requires : (t : ℕ) → settle-lts.Need-run-leaf-requires (claims-settle t) (settle-at t) settle.Post
-settle-run-leaf-requires t c κs = (((c .before .before .before .before .before .before .before .pre .1) .place) .inside, c .before .before .before .before .kind-at .ensures .0)
-
-settle-same-length-2 : (t : ℕ) → settle-lts.Need-same-length-2 (claims-settle t) (settle-at t) settle.Post
-settle-same-length-2 t c = search needs
-
 settle-returns-2 : (t : ℕ) → settle-lts.Need-returns-2 (claims-settle t) (settle-at t) settle.Post
 settle-returns-2 t c = rw (settle-if _ _ ((c .before .before .before .before .before .before .before .before .before .before .before .before .before .before .before .before .before .pre .1) .place) _ (sym (c .before .before .before .before .before .before .before .before .before .before .before .before .before .before .kind-at .ensures .0) ∙ c .before .before .before .before .before .before .before .before .before .before .before .before .before .match .keys1), ← c .before .before .before .before .before .before .before .before .before .before .before .before .name-at .ensures .0, ← c .before .before .before .before .before .before .before .before .before .before .is-nonzero .ensures _ _, ← c .before .before .before .before .before .before .before .before .tick .ensures _ _, c .before .before .before .before .before .before .before .if1 .left, ← c .before .before .before .before .before .before .second-at .ensures) (c .before .before .settle2 .ensures)
 
-settle-same-length-3 : (t : ℕ) → settle-lts.Need-same-length-3 (claims-settle t) (settle-at t) settle.Post
-settle-same-length-3 t c = search needs
-
 settle-returns-3 : (t : ℕ) → settle-lts.Need-returns-3 (claims-settle t) (settle-at t) settle.Post
 settle-returns-3 t c = rw (settle-seq _ _ ((c .before .before .before .before .before .before .before .before .before .before .before .before .before .before .before .before .before .before .before .pre .1) .place) _ (sym (c .before .before .before .before .before .before .before .before .before .before .before .before .before .before .before .before .kind-at .ensures .0) ∙ c .before .before .before .before .before .before .before .before .before .before .before .before .before .before .before .match .keys2), ← c .before .before .before .before .before .before .before .before .before .before .before .settle3 .ensures, ← c .before .before .before .before .before .before .before .tick2 .ensures _ _, ← c .before .before .before .before .before .before .second-at2 .ensures) (c .before .before .settle4 .ensures)
-
-settle-same-length-4 : (t : ℕ) → settle-lts.Need-same-length-4 (claims-settle t) (settle-at t) settle.Post
-settle-same-length-4 t c = search needs
 
 settle-returns-4 : (t : ℕ) → settle-lts.Need-returns-4 (claims-settle t) (settle-at t) settle.Post
 settle-returns-4 t c = rw (settle-rest _ _ ((c .before .before .before .before .before .before .before .before .before .before .pre .1) .place) _ (λ e. c .before .before .before .before .before .before .match .rest .0 .1 (c .before .before .before .before .before .before .before .kind-at .ensures .0 ∙ e)) (λ e. c .before .before .before .before .before .before .match .rest .1 (c .before .before .before .before .before .before .before .kind-at .ensures .0 ∙ e)), ← c .before .before .before .before .before .before .before .kind-at .ensures .0) (c .before .before .run-leaf .ensures)
 
 pub +settle-spec : {M : Type 1} → statement M
-+settle-spec = close μ-settle λ t. settle-lts.spec (claims-settle t)
-    (settle-at t)
-    settle.Post
-    (settle-kind-at-requires t)
-    (settle-name-at-requires t)
-    (settle-is-nonzero-requires t)
-    (settle-tick-requires t)
-    (settle-add-settle t)
-    (settle-settle-requires t)
-    (settle-same-length t)
++settle-spec = close μ-settle λ t. settle-lts.spec (claims-settle t) (settle-at t) settle.Post
+    (λ c κs. ((c .before .before .pre .1) .place) .inside)
+    (λ c κs. ((c .before .before .before .before .pre .1) .place) .inside)
+    (λ c κs. tt)
+    (λ c κs. tt)
+    (λ c. omega (arith, ((c .before .before .before .before .before .before .before .before .before .before .pre .1) .place) .inside, (c .before .before .before .before .before .before .before .before .before .before .pre .1) .small))
+    (λ c κs. down _ _ (c .before .before .before .before .before .before .before .before .before .before .before .before .before .pre .1) (omega (arith, c .before .before .before .before .before .before .before .before .before .before .before .before .before .pre .0)) (children 12 (sym (c .before .before .before .before .before .before .before .before .before .before .kind-at .ensures .0) ∙ c .before .before .before .before .before .before .before .before .before .match .keys1) tt))
+    (λ c. search needs)
     (settle-returns t)
-    (settle-second-at-requires t)
-    (settle-settle-requires-2 t)
-    (settle-add-settle-2 t)
-    (settle-settle-requires-3 t)
-    (settle-tick-requires-2 t)
-    (settle-second-at-requires-2 t)
-    (settle-settle-requires-4 t)
-    (settle-run-leaf-requires t)
-    (settle-same-length-2 t)
+    (λ c κs. spot-down _ _ (c .before .before .before .before .before .before .before .before .before .before .pre .1) (children 12 (sym (c .before .before .before .before .before .before .before .kind-at .ensures .0) ∙ c .before .before .before .before .before .before .match .keys1) tt) .place .inside)
+    (λ c κs. next _ _ (c .before .before .before .before .before .before .before .before .before .before .before .before .before .before .pre .1) (omega (arith, c .before .before .before .before .before .before .before .before .before .before .before .before .before .before .pre .0)) (children 12 (sym (c .before .before .before .before .before .before .before .before .before .before .before .kind-at .ensures .0) ∙ c .before .before .before .before .before .before .before .before .before .before .match .keys1) tt) (c .before .before .before .second-at .ensures))
+    (λ c. omega (arith, ((c .before .before .before .before .pre .1) .place) .inside, (c .before .before .before .before .pre .1) .small))
+    (λ c κs. down _ _ (c .before .before .before .before .before .before .before .pre .1) (omega (arith, c .before .before .before .before .before .before .before .pre .0)) (children 13 (sym (c .before .before .before .before .kind-at .ensures .0) ∙ c .before .before .before .match .keys2) tt))
+    (λ c κs. tt)
+    (λ c κs. spot-down _ _ (c .before .before .before .before .before .before .before .before .before .before .before .before .pre .1) (children 13 (sym (c .before .before .before .before .before .before .before .before .before .kind-at .ensures .0) ∙ c .before .before .before .before .before .before .before .before .match .keys2) tt) .place .inside)
+    (λ c κs. next _ _ (c .before .before .before .before .before .before .before .before .before .before .before .before .before .before .before .before .pre .1) (omega (arith, c .before .before .before .before .before .before .before .before .before .before .before .before .before .before .before .before .pre .0)) (children 13 (sym (c .before .before .before .before .before .before .before .before .before .before .before .before .before .kind-at .ensures .0) ∙ c .before .before .before .before .before .before .before .before .before .before .before .before .match .keys2) tt) (c .before .before .before .second-at2 .ensures))
+    (λ c κs. (((c .before .before .before .before .before .before .before .pre .1) .place) .inside, c .before .before .before .before .kind-at .ensures .0))
+    (λ c. search needs)
     (settle-returns-2 t)
-    (settle-same-length-3 t)
+    (λ c. search needs)
     (settle-returns-3 t)
-    (settle-same-length-4 t)
+    (λ c. search needs)
     (settle-returns-4 t)

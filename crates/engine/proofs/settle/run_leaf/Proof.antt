@@ -1,3 +1,5 @@
+-- `run_leaf` does what the record of a leaf does at once.
+-- Assumes nothing.
 use mathlib.Core.Path.{_≡_, _∙_}
 use borrow.Author.Needs.{needs, sfits-of}
 use borrow.Author.Tests.{eq-eqb, ne-eqb, lt-ltb, le-ltb}
@@ -7,37 +9,12 @@ use mir.Val.{toZ, ofZ}
 use mir.Facts.{toZ-ofZ}
 use Rattle.rules.specs.Table.{numberAt}
 use Rattle.engine.specs.Walks.{leafRuns}
-use borrow.Author.Needs.{needs}
 use Rattle.engine.proofs.settle.run_leaf.Statement.{statement}
 use Rattle.engine.proofs.settle.run_leaf.Tie as tie
-use Rattle.engine.proofs.settle.run_leaf.Reads as reads
-use Rattle.engine.proofs.settle.run_leaf.Lts as lts
-use Rattle.memory.proofs.act.Reads as act-reads
-use Rattle.memory.proofs.tick.Reads as tick-reads
-use Rattle.table.proofs.name_at.Reads as name-at-reads
-use Rattle.table.proofs.number_at.Reads as number-at-reads
 
 returns : tie.Need-returns
 unfolding leafRuns
 returns c = rw (eq-eqb _ _ (c .if1 .taken))
-
-name-at-requires : tie.Need-name-at-requires
-name-at-requires c κs = search needs
-
-number-at-requires : tie.Need-number-at-requires
-number-at-requires c κs = search needs
-
-cast-act : tie.Need-cast-act
-cast-act c = search needs
-
-act-requires : tie.Need-act-requires
-act-requires c κs = search needs
-
-tick-requires : tie.Need-tick-requires
-tick-requires c κs = search needs
-
-same-length : tie.Need-same-length
-same-length c = search needs
 
 returns-2 : tie.Need-returns-2
 unfolding leafRuns
@@ -54,11 +31,11 @@ run-leaf-spec =
     tie.close
     (tie.spec
     returns
-    name-at-requires
-    number-at-requires
-    cast-act
-    act-requires
-    tick-requires
-    same-length
+    (λ c κs. search needs)
+    (λ c κs. search needs)
+    (λ c. search needs)
+    (λ c κs. search needs)
+    (λ c κs. search needs)
+    (λ c. search needs)
     returns-2
     returns-3)

@@ -1,12 +1,12 @@
-use mathlib.Core.Path.{_≡_, sym, _∙_}
-use Prim.Native.Nat.{_*_, _+_}
+-- `awake` is the awake of the theory at the tree of its place: two children, the body of a loop, or the record itself. The span falls at each call.
+-- Assumes nothing.
+use mathlib.Core.Path.{sym, _∙_}
+use Prim.Native.Nat.{_*_, _+_, ℕ, _<_}
 use native.Mathlib.Omega.{arith}
-use borrow.Author.Needs.{needs}
 use borrow.Author.Tests.{eq-eqb, ne-eqb}
 use Rattle.rules.specs.Table.{spanAt}
 use Rattle.engine.proofs.Spots.{spot-down, down, next, children}
 use Rattle.engine.proofs.Waking.{awake-record}
-use Prim.Native.Nat.{ℕ, _<_}
 use borrow.Fn.Kinds.{In}
 use borrow.Fn.PlainCycle.{Measures, is, falls, and}
 use Rattle.engine.proofs.wake.awake.Reads as awake
@@ -31,66 +31,30 @@ abbrev awake-below : ℕ → In 2 awake-kinds.ps
 awake-below t = and 2 awake-kinds.ps (falls 2 awake-kinds.ps _<_ μ-awake t) awake.Pre
 
 abbrev claims-awake : ℕ → awake-lts.Claims
-claims-awake t =
-    (children-at-reads.Asked, children-at-reads.Learnt, awake-below t, awake.Post, second-at-reads.Asked, second-at-reads.Learnt, kind-at-reads.Asked, kind-at-reads.Learnt, name-at-reads.Asked, name-at-reads.Learnt, hears-reads.Asked, hears-reads.Learnt, wake-one-reads.Asked, wake-one-reads.Learnt)
-
-awake-children-at-requires : (t : ℕ) → awake-lts.Need-children-at-requires (claims-awake t) (awake-at t) awake.Post
-awake-children-at-requires t c κs = ((c .before .pre .1) .place) .inside
-
-awake-add-awake : (t : ℕ) → awake-lts.Need-add-awake (claims-awake t) (awake-at t) awake.Post
-awake-add-awake t c = omega (arith, ((c .before .before .before .pre .1) .place) .inside, (c .before .before .before .pre .1) .small)
-
-awake-awake-requires : (t : ℕ) → awake-lts.Need-awake-requires (claims-awake t) (awake-at t) awake.Post
-awake-awake-requires t c κs = down _ _ (c .before .before .before .before .pre .1) (omega (arith, c .before .before .before .before .pre .0)) (omega (arith, (sym (c .before .before .children-at .ensures .0) ∙ c .before .if1 .taken)))
-
-awake-second-at-requires : (t : ℕ) → awake-lts.Need-second-at-requires (claims-awake t) (awake-at t) awake.Post
-awake-second-at-requires t c κs = spot-down _ _ (c .before .before .before .before .before .pre .1) (omega (arith, (sym (c .before .before .before .children-at .ensures .0) ∙ c .before .before .if1 .taken))) .place .inside
-
-awake-awake-requires-2 : (t : ℕ) → awake-lts.Need-awake-requires-2 (claims-awake t) (awake-at t) awake.Post
-awake-awake-requires-2 t c κs = next _ _ (c .before .before .before .before .before .before .before .pre .1) (omega (arith, c .before .before .before .before .before .before .before .pre .0)) (omega (arith, (sym (c .before .before .before .before .before .children-at .ensures .0) ∙ c .before .before .before .before .if1 .taken))) (c .before .second-at .ensures)
+claims-awake t = (children-at-reads.Asked, children-at-reads.Learnt, awake-below t, awake.Post, second-at-reads.Asked, second-at-reads.Learnt, kind-at-reads.Asked, kind-at-reads.Learnt, name-at-reads.Asked, name-at-reads.Learnt, hears-reads.Asked, hears-reads.Learnt, wake-one-reads.Asked, wake-one-reads.Learnt)
 
 awake-returns : (t : ℕ) → awake-lts.Need-returns (claims-awake t) (awake-at t) awake.Post
 awake-returns t c = rw (awake-record _ _ ((c .before .before .before .before .before .before .before .before .pre .1) .place) _ _ _, eq-eqb _ _ (sym (c .before .before .before .before .before .before .children-at .ensures .0) ∙ c .before .before .before .before .before .if1 .taken), ← c .before .before .before .awake .ensures, ← c .before .before .second-at .ensures) (c .awake2 .ensures)
 
-awake-kind-at-requires : (t : ℕ) → awake-lts.Need-kind-at-requires (claims-awake t) (awake-at t) awake.Post
-awake-kind-at-requires t c κs = ((c .before .before .before .pre .1) .place) .inside
-
-awake-add-awake-2 : (t : ℕ) → awake-lts.Need-add-awake-2 (claims-awake t) (awake-at t) awake.Post
-awake-add-awake-2 t c = omega (arith, ((c .before .before .before .before .before .pre .1) .place) .inside, (c .before .before .before .before .before .pre .1) .small)
-
-awake-awake-requires-3 : (t : ℕ) → awake-lts.Need-awake-requires-3 (claims-awake t) (awake-at t) awake.Post
-awake-awake-requires-3 t c κs = down _ _ (c .before .before .before .before .before .before .pre .1) (omega (arith, c .before .before .before .before .before .before .pre .0)) (children 14 (sym (c .before .before .kind-at .ensures .0) ∙ c .before .if2 .taken) tt)
-
 awake-returns-2 : (t : ℕ) → awake-lts.Need-returns-2 (claims-awake t) (awake-at t) awake.Post
 awake-returns-2 t c = rw (awake-record _ _ ((c .before .before .before .before .before .before .before .pre .1) .place) _ _ _, ne-eqb _ _ (λ e. c .before .before .before .before .if1 .left (c .before .before .before .before .before .children-at .ensures .0 ∙ e)), eq-eqb _ _ (sym (c .before .before .before .kind-at .ensures .0) ∙ c .before .before .if2 .taken)) (c .awake3 .ensures)
-
-awake-name-at-requires : (t : ℕ) → awake-lts.Need-name-at-requires (claims-awake t) (awake-at t) awake.Post
-awake-name-at-requires t c κs = ((c .before .before .before .before .before .pre .1) .place) .inside
-
-awake-hears-requires : (t : ℕ) → awake-lts.Need-hears-requires (claims-awake t) (awake-at t) awake.Post
-awake-hears-requires t c κs = tt
-
-awake-wake-one-requires : (t : ℕ) → awake-lts.Need-wake-one-requires (claims-awake t) (awake-at t) awake.Post
-awake-wake-one-requires t c κs = omega (arith, ((c .before .before .before .before .before .before .before .before .pre .1) .place) .inside, (c .before .before .before .before .before .before .before .before .pre .1) .small)
 
 awake-returns-3 : (t : ℕ) → awake-lts.Need-returns-3 (claims-awake t) (awake-at t) awake.Post
 awake-returns-3 t c = rw (awake-record _ _ ((c .before .before .before .before .before .before .before .before .before .pre .1) .place) _ _ _, ne-eqb _ _ (λ e. c .before .before .before .before .before .before .if1 .left (c .before .before .before .before .before .before .before .children-at .ensures .0 ∙ e)), ne-eqb _ _ (λ e. c .before .before .before .before .if2 .left (c .before .before .before .before .before .kind-at .ensures .0 ∙ e)), ← c .before .before .before .before .before .kind-at .ensures .0, ← c .before .before .before .name-at .ensures .0, ← c .before .before .hears .ensures) (c .wake-one .ensures)
 
 pub +awake-spec : {M : Type 1} → statement M
-+awake-spec = close μ-awake λ t. awake-lts.spec (claims-awake t)
-    (awake-at t)
-    awake.Post
-    (awake-children-at-requires t)
-    (awake-add-awake t)
-    (awake-awake-requires t)
-    (awake-second-at-requires t)
-    (awake-awake-requires-2 t)
++awake-spec = close μ-awake λ t. awake-lts.spec (claims-awake t) (awake-at t) awake.Post
+    (λ c κs. ((c .before .pre .1) .place) .inside)
+    (λ c. omega (arith, ((c .before .before .before .pre .1) .place) .inside, (c .before .before .before .pre .1) .small))
+    (λ c κs. down _ _ (c .before .before .before .before .pre .1) (omega (arith, c .before .before .before .before .pre .0)) (omega (arith, (sym (c .before .before .children-at .ensures .0) ∙ c .before .if1 .taken))))
+    (λ c κs. spot-down _ _ (c .before .before .before .before .before .pre .1) (omega (arith, (sym (c .before .before .before .children-at .ensures .0) ∙ c .before .before .if1 .taken))) .place .inside)
+    (λ c κs. next _ _ (c .before .before .before .before .before .before .before .pre .1) (omega (arith, c .before .before .before .before .before .before .before .pre .0)) (omega (arith, (sym (c .before .before .before .before .before .children-at .ensures .0) ∙ c .before .before .before .before .if1 .taken))) (c .before .second-at .ensures))
     (awake-returns t)
-    (awake-kind-at-requires t)
-    (awake-add-awake-2 t)
-    (awake-awake-requires-3 t)
+    (λ c κs. ((c .before .before .before .pre .1) .place) .inside)
+    (λ c. omega (arith, ((c .before .before .before .before .before .pre .1) .place) .inside, (c .before .before .before .before .before .pre .1) .small))
+    (λ c κs. down _ _ (c .before .before .before .before .before .before .pre .1) (omega (arith, c .before .before .before .before .before .before .pre .0)) (children 14 (sym (c .before .before .kind-at .ensures .0) ∙ c .before .if2 .taken) tt))
     (awake-returns-2 t)
-    (awake-name-at-requires t)
-    (awake-hears-requires t)
-    (awake-wake-one-requires t)
+    (λ c κs. ((c .before .before .before .before .before .pre .1) .place) .inside)
+    (λ c κs. tt)
+    (λ c κs. omega (arith, ((c .before .before .before .before .before .before .before .before .pre .1) .place) .inside, (c .before .before .before .before .before .before .before .before .pre .1) .small))
     (awake-returns-3 t)

@@ -1,12 +1,12 @@
-use mathlib.Core.Path.{_≡_, sym, _∙_}
-use Prim.Native.Nat.{_*_, _+_}
+-- `blocked` is the still of the theory at the tree of its place: its own state, then those below. The span falls at each call.
+-- Assumes nothing.
+use mathlib.Core.Path.{sym, _∙_}
+use Prim.Native.Nat.{_*_, _+_, ℕ, _<_}
 use native.Mathlib.Omega.{arith}
-use borrow.Author.Needs.{needs}
 use borrow.Author.Tests.{eq-eqb, ne-eqb}
 use Rattle.rules.specs.Table.{spanAt}
 use Rattle.engine.proofs.Spots.{spot-down, down, next, children}
 use Rattle.engine.proofs.Waking.{still-not, still-record}
-use Prim.Native.Nat.{ℕ, _<_}
 use borrow.Fn.Kinds.{In}
 use borrow.Fn.PlainCycle.{Measures, is, falls, and}
 use Rattle.engine.proofs.wake.blocked.Reads as blocked
@@ -28,14 +28,7 @@ abbrev blocked-below : ℕ → In 2 blocked-kinds.ps
 blocked-below t = and 2 blocked-kinds.ps (falls 2 blocked-kinds.ps _<_ μ-blocked t) blocked.Pre
 
 abbrev claims-blocked : ℕ → blocked-lts.Claims
-claims-blocked t =
-    (children-at-reads.Asked, children-at-reads.Learnt, blocked-below t, blocked.Post, second-at-reads.Asked, second-at-reads.Learnt, kind-at-reads.Asked, kind-at-reads.Learnt)
-
-blocked-mul-state : (t : ℕ) → blocked-lts.Need-mul-state (claims-blocked t) (blocked-at t) blocked.Post
-blocked-mul-state t c = omega (arith, ((c .before .pre .1) .place) .inside, (c .before .pre .1) .small)
-
-blocked-element-copy-out-state : (t : ℕ) → blocked-lts.Need-element-copy-out-state (claims-blocked t) (blocked-at t) blocked.Post
-blocked-element-copy-out-state t c = omega (arith, ((c .before .pre .1) .place) .inside, (c .before .pre .1) .small)
+claims-blocked t = (children-at-reads.Asked, children-at-reads.Learnt, blocked-below t, blocked.Post, second-at-reads.Asked, second-at-reads.Learnt, kind-at-reads.Asked, kind-at-reads.Learnt)
 
 blocked-returns : (t : ℕ) → blocked-lts.Need-returns (claims-blocked t) (blocked-at t) blocked.Post
 blocked-returns t c = sym (still-not _ _ ((c .before .before .before .pre .1) .place) _ _ (rw (eq-eqb _ _ (c .if1 .taken))))
@@ -43,35 +36,11 @@ blocked-returns t c = sym (still-not _ _ ((c .before .before .before .pre .1) .p
 blocked-returns-2 : (t : ℕ) → blocked-lts.Need-returns-2 (claims-blocked t) (blocked-at t) blocked.Post
 blocked-returns-2 t c = sym (still-not _ _ ((c .before .before .before .before .pre .1) .place) _ _ (rw (ne-eqb _ _ (c .before .if1 .left), eq-eqb _ _ (c .if2 .taken))))
 
-blocked-children-at-requires : (t : ℕ) → blocked-lts.Need-children-at-requires (claims-blocked t) (blocked-at t) blocked.Post
-blocked-children-at-requires t c κs = ((c .before .before .before .before .pre .1) .place) .inside
-
-blocked-add-blocked : (t : ℕ) → blocked-lts.Need-add-blocked (claims-blocked t) (blocked-at t) blocked.Post
-blocked-add-blocked t c = omega (arith, ((c .before .before .before .before .before .before .pre .1) .place) .inside, (c .before .before .before .before .before .before .pre .1) .small)
-
-blocked-blocked-requires : (t : ℕ) → blocked-lts.Need-blocked-requires (claims-blocked t) (blocked-at t) blocked.Post
-blocked-blocked-requires t c κs = down _ _ (c .before .before .before .before .before .before .pre .1) (omega (arith, c .before .before .before .before .before .before .pre .0)) (omega (arith, (sym (c .before .children-at .ensures .0) ∙ c .if3 .taken)))
-
-blocked-second-at-requires : (t : ℕ) → blocked-lts.Need-second-at-requires (claims-blocked t) (blocked-at t) blocked.Post
-blocked-second-at-requires t c κs = spot-down _ _ (c .before .before .before .before .before .before .before .before .pre .1) (omega (arith, (sym (c .before .before .before .children-at .ensures .0) ∙ c .before .before .if3 .taken))) .place .inside
-
-blocked-blocked-requires-2 : (t : ℕ) → blocked-lts.Need-blocked-requires-2 (claims-blocked t) (blocked-at t) blocked.Post
-blocked-blocked-requires-2 t c κs = next _ _ (c .before .before .before .before .before .before .before .before .before .pre .1) (omega (arith, c .before .before .before .before .before .before .before .before .before .pre .0)) (omega (arith, (sym (c .before .before .before .before .children-at .ensures .0) ∙ c .before .before .before .if3 .taken))) (c .second-at .ensures)
-
 blocked-returns-3 : (t : ℕ) → blocked-lts.Need-returns-3 (claims-blocked t) (blocked-at t) blocked.Post
 blocked-returns-3 t c = rw (still-record _ _ ((c .before .before .before .before .before .before .before .before .before .before .pre .1) .place) (c .before .before .before .before .before .before .before .before .before .before .args .st .now) (c .before .before .before .before .before .before .before .before .before .before .args .n) (rw (ne-eqb _ _ (c .before .before .before .before .before .before .before .if1 .left), ne-eqb _ _ (c .before .before .before .before .before .before .if2 .left))), eq-eqb _ _ (sym (c .before .before .before .before .before .children-at .ensures .0) ∙ c .before .before .before .before .if3 .taken), ← c .before .before .before .blocked .ensures, c .before .before .if4 .taken, ← c .before .second-at .ensures) (c .blocked2 .ensures)
 
 blocked-returns-4 : (t : ℕ) → blocked-lts.Need-returns-4 (claims-blocked t) (blocked-at t) blocked.Post
 blocked-returns-4 t c = rw (still-record _ _ ((c .before .before .before .before .before .before .before .before .pre .1) .place) (c .before .before .before .before .before .before .before .before .args .st .now) (c .before .before .before .before .before .before .before .before .args .n) (rw (ne-eqb _ _ (c .before .before .before .before .before .if1 .left), ne-eqb _ _ (c .before .before .before .before .if2 .left))), eq-eqb _ _ (sym (c .before .before .before .children-at .ensures .0) ∙ c .before .before .if3 .taken), ← c .before .blocked .ensures, c .if4 .left)
-
-blocked-kind-at-requires : (t : ℕ) → blocked-lts.Need-kind-at-requires (claims-blocked t) (blocked-at t) blocked.Post
-blocked-kind-at-requires t c κs = ((c .before .before .before .before .before .before .pre .1) .place) .inside
-
-blocked-add-blocked-2 : (t : ℕ) → blocked-lts.Need-add-blocked-2 (claims-blocked t) (blocked-at t) blocked.Post
-blocked-add-blocked-2 t c = omega (arith, ((c .before .before .before .before .before .before .before .before .pre .1) .place) .inside, (c .before .before .before .before .before .before .before .before .pre .1) .small)
-
-blocked-blocked-requires-3 : (t : ℕ) → blocked-lts.Need-blocked-requires-3 (claims-blocked t) (blocked-at t) blocked.Post
-blocked-blocked-requires-3 t c κs = down _ _ (c .before .before .before .before .before .before .before .before .pre .1) (omega (arith, c .before .before .before .before .before .before .before .before .pre .0)) (children 14 (sym (c .before .kind-at .ensures .0) ∙ c .if5 .taken) tt)
 
 blocked-returns-5 : (t : ℕ) → blocked-lts.Need-returns-5 (claims-blocked t) (blocked-at t) blocked.Post
 blocked-returns-5 t c = rw (still-record _ _ ((c .before .before .before .before .before .before .before .before .before .pre .1) .place) (c .before .before .before .before .before .before .before .before .before .args .st .now) (c .before .before .before .before .before .before .before .before .before .args .n) (rw (ne-eqb _ _ (c .before .before .before .before .before .before .if1 .left), ne-eqb _ _ (c .before .before .before .before .before .if2 .left))), ne-eqb _ _ (λ e. c .before .before .before .if3 .left (c .before .before .before .before .children-at .ensures .0 ∙ e)), eq-eqb _ _ (sym (c .before .before .kind-at .ensures .0) ∙ c .before .if5 .taken)) (c .blocked3 .ensures)
@@ -80,22 +49,20 @@ blocked-returns-6 : (t : ℕ) → blocked-lts.Need-returns-6 (claims-blocked t) 
 blocked-returns-6 t c = rw (still-record _ _ ((c .before .before .before .before .before .before .before .before .pre .1) .place) (c .before .before .before .before .before .before .before .before .args .st .now) (c .before .before .before .before .before .before .before .before .args .n) (rw (ne-eqb _ _ (c .before .before .before .before .before .if1 .left), ne-eqb _ _ (c .before .before .before .before .if2 .left))), ne-eqb _ _ (λ e. c .before .before .if3 .left (c .before .before .before .children-at .ensures .0 ∙ e)), ne-eqb _ _ (λ e. c .if5 .left (c .before .kind-at .ensures .0 ∙ e)))
 
 pub +blocked-spec : {M : Type 1} → statement M
-+blocked-spec = close μ-blocked λ t. blocked-lts.spec (claims-blocked t)
-    (blocked-at t)
-    blocked.Post
-    (blocked-mul-state t)
-    (blocked-element-copy-out-state t)
++blocked-spec = close μ-blocked λ t. blocked-lts.spec (claims-blocked t) (blocked-at t) blocked.Post
+    (λ c. omega (arith, ((c .before .pre .1) .place) .inside, (c .before .pre .1) .small))
+    (λ c. omega (arith, ((c .before .pre .1) .place) .inside, (c .before .pre .1) .small))
     (blocked-returns t)
     (blocked-returns-2 t)
-    (blocked-children-at-requires t)
-    (blocked-add-blocked t)
-    (blocked-blocked-requires t)
-    (blocked-second-at-requires t)
-    (blocked-blocked-requires-2 t)
+    (λ c κs. ((c .before .before .before .before .pre .1) .place) .inside)
+    (λ c. omega (arith, ((c .before .before .before .before .before .before .pre .1) .place) .inside, (c .before .before .before .before .before .before .pre .1) .small))
+    (λ c κs. down _ _ (c .before .before .before .before .before .before .pre .1) (omega (arith, c .before .before .before .before .before .before .pre .0)) (omega (arith, (sym (c .before .children-at .ensures .0) ∙ c .if3 .taken))))
+    (λ c κs. spot-down _ _ (c .before .before .before .before .before .before .before .before .pre .1) (omega (arith, (sym (c .before .before .before .children-at .ensures .0) ∙ c .before .before .if3 .taken))) .place .inside)
+    (λ c κs. next _ _ (c .before .before .before .before .before .before .before .before .before .pre .1) (omega (arith, c .before .before .before .before .before .before .before .before .before .pre .0)) (omega (arith, (sym (c .before .before .before .before .children-at .ensures .0) ∙ c .before .before .before .if3 .taken))) (c .second-at .ensures))
     (blocked-returns-3 t)
     (blocked-returns-4 t)
-    (blocked-kind-at-requires t)
-    (blocked-add-blocked-2 t)
-    (blocked-blocked-requires-3 t)
+    (λ c κs. ((c .before .before .before .before .before .before .pre .1) .place) .inside)
+    (λ c. omega (arith, ((c .before .before .before .before .before .before .before .before .pre .1) .place) .inside, (c .before .before .before .before .before .before .before .before .pre .1) .small))
+    (λ c κs. down _ _ (c .before .before .before .before .before .before .before .before .pre .1) (omega (arith, c .before .before .before .before .before .before .before .before .pre .0)) (children 14 (sym (c .before .kind-at .ensures .0) ∙ c .if5 .taken) tt))
     (blocked-returns-5 t)
     (blocked-returns-6 t)

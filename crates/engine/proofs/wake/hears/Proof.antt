@@ -1,14 +1,9 @@
+-- `hears` is that test, and that the names are the same.
+-- Assumes nothing.
 use borrow.Author.Needs.{needs}
 use Rattle.engine.specs.Walks.{hears}
-use borrow.Author.Needs.{needs}
 use Rattle.engine.proofs.wake.hears.Statement.{statement}
 use Rattle.engine.proofs.wake.hears.Tie as tie
-use Rattle.engine.proofs.wake.hears.Reads as reads
-use Rattle.engine.proofs.wake.hears.Lts as lts
-use Rattle.engine.proofs.wake.waits.Reads as waits-reads
-
-waits-requires : tie.Need-waits-requires
-waits-requires c κs = search needs
 
 returns : tie.Need-returns
 unfolding hears
@@ -19,4 +14,4 @@ unfolding hears
 returns-2 c = rw (← c .before .waits .ensures, c .if1 .left)
 
 pub hears-spec : {M : Type 1} → statement M
-hears-spec = tie.close (tie.spec waits-requires returns returns-2)
+hears-spec = tie.close (tie.spec (λ c κs. search needs) returns returns-2)

@@ -1,9 +1,9 @@
+-- `waits` is the test of kinds 8 and 15, or 9 and 16.
+-- Assumes nothing.
 use borrow.Author.Tests.{eq-eqb, ne-eqb}
 use Rattle.engine.specs.Walks.{waits}
 use Rattle.engine.proofs.wake.waits.Statement.{statement}
 use Rattle.engine.proofs.wake.waits.Tie as tie
-use Rattle.engine.proofs.wake.waits.Reads as reads
-use Rattle.engine.proofs.wake.waits.Lts as lts
 
 returns : tie.Need-returns
 unfolding waits
