@@ -5,6 +5,7 @@ ghost use mathlib.Core.Option.{none};
 ghost use lib.ListN.{length, take, drop};
 ghost use lib.Seq.{sets};
 ghost use Rattle.rules.specs.Stages.{firstRefusal};
+ghost use Rattle.rules.specs.Limits.{recordBytes};
 ghost use Rattle.rules.specs.Tree.{spanOf};
 ghost use Rattle.rules.specs.Table.{kindAt, spanAt, recordsOf, programOf};
 ghost use Rattle.rules.specs.Marks.{marksStages, atRest};
@@ -119,8 +120,8 @@ fn rests_of(table: &[u8], marks: &[u8]) -> [u16; 256]
 
 // A record with name and number 0 at record place `at` of a buffer.
 fn write_head(out: &mut [u8], at: usize, kind: usize, span: usize)
-    requires { ⌜ (8 * (at + 1) ≤ length (now out)) × (kind < 256) × (span < 65536) ⌝ }
-    ensures { λ r. ⌜ now (out .exit) ≡ sets (now (out .entry)) (8 * at) (headBytes kind span) ⌝ }
+    requires { ⌜ (recordBytes * (at + 1) ≤ length (now out)) × (kind < 256) × (span < 65536) ⌝ }
+    ensures { λ r. ⌜ now (out .exit) ≡ sets (now (out .entry)) (recordBytes * at) (headBytes kind span) ⌝ }
 {
     let from = Limits::RECORD_BYTES * at;
     out[from] = kind as u8;
@@ -149,8 +150,8 @@ fn copy_bytes(source: &[u8], from: usize, count: usize, out: &mut [u8], to: usiz
 fn copy_whole(table: &[u8], i: usize, out: &mut [u8], at: usize)
     requires { ⌜ Place (now table) i ⌝ }
     requires { ⌜ Sound (now table) ⌝ }
-    requires { ⌜ 8 * (at + spanAt (now table) i) ≤ length (now out) ⌝ }
-    ensures { λ r. ⌜ now (out .exit) ≡ sets (now (out .entry)) (8 * at) (recordsFor (treeOf (now (table .entry)) i)) ⌝ }
+    requires { ⌜ recordBytes * (at + spanAt (now table) i) ≤ length (now out) ⌝ }
+    ensures { λ r. ⌜ now (out .exit) ≡ sets (now (out .entry)) (recordBytes * at) (recordsFor (treeOf (now (table .entry)) i)) ⌝ }
 {
     let count = Limits::RECORD_BYTES * table::span_at(table, i);
     copy_bytes(
@@ -165,7 +166,7 @@ fn copy_whole(table: &[u8], i: usize, out: &mut [u8], at: usize)
 // What remains of the construct at place i, from record place `at` of a buffer on.
 fn write_rest(table: &[u8], marks: &[u8], rests: &[u16; 256], i: usize, out: &mut [u8], at: usize)
     requires { ⌜ Room (now table) (now marks) (now rests) i at (length (now out)) ⌝ }
-    ensures { λ r. ⌜ now (out .exit) ≡ sets (now (out .entry)) (8 * at) (restRecords (now (marks .entry)) (treeOf (now (table .entry)) i)) ⌝ }
+    ensures { λ r. ⌜ now (out .exit) ≡ sets (now (out .entry)) (recordBytes * at) (restRecords (now (marks .entry)) (treeOf (now (table .entry)) i)) ⌝ }
 {
     let kind = table::kind_at(table, i);
     if may_mark(kind) {
@@ -219,7 +220,7 @@ pub fn remaining_span(table: &[u8], marks: &[u8]) -> usize
 pub fn write_remaining(table: &[u8], marks: &[u8], out: &mut [u8]) -> usize
     requires { ⌜ Sound (now table) ⌝ }
     requires { ⌜ firstRefusal (marksStages (now table) (now marks)) ≡ none ⌝ }
-    requires { ⌜ 8 * spanOf (atRest (now marks) (programOf (now table))) ≤ length (now out) ⌝ }
+    requires { ⌜ recordBytes * spanOf (atRest (now marks) (programOf (now table))) ≤ length (now out) ⌝ }
     ensures { λ r. ⌜ (r ≡ spanOf (atRest (now (marks .entry)) (programOf (now (table .entry))))) × (r < 65536) × (now (out .exit) ≡ onto (recordsFor (atRest (now (marks .entry)) (programOf (now (table .entry))))) (now (out .entry))) ⌝ }
 {
     let rests = rests_of(table, marks);
