@@ -1,0 +1,4 @@
+-- What the calls answer and leave.
+pub mod Answers
+pub mod Holding
+pub mod Stages

@@ -1,0 +1,3 @@
+-- What the C functions answer and leave.
+pub mod Numbers
+pub mod Counted

@@ -1,0 +1,2 @@
+-- What the runner tests before the first line.
+pub mod Verdict

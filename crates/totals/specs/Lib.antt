@@ -1,0 +1,2 @@
+-- The running totals.
+pub mod Sum
