@@ -98,8 +98,6 @@ fn run_tested(
     requires { ⌜ announcedOf announced ≡ Rules.announced (now table) ⌝ }
     ensures { λ r. ⌜ Ran (listCall (now (table .entry)) (lent (now (marks .entry)) (now (vars .entry)) (now (out .entry))) (now (events .entry))) r (now (marks .exit)) (now (vars .exit)) (now (out .exit)) ⌝ }
 {
-    let steps = announced.steps;
-    let outputs = announced.outputs;
     let mut st: [u32; 256] = [0; 256];
     let mut held: [i32; 64] = [0; 64];
     let mut counts: [u64; 2] = [0; 2];
@@ -108,10 +106,10 @@ fn run_tested(
     let mut emitted: u64 = 0;
     let mut highest: u32 = 0;
     let mut i: usize = 0;
-    while goes_on(events, i, out, counts[1], outputs) {
+    while goes_on(events, i, out, counts[1], announced.outputs) {
         let round = take_event(
             table,
-            steps,
+            announced.steps,
             events,
             i,
             &mut st,

@@ -11,7 +11,7 @@ use lib.IntN.{ℤ}
 use Rattle.rules.specs.Stages.{option, Refusal, Stage, orElse, firstRefusal}
 use Rattle.rules.specs.Check.{tableStages}
 use Rattle.rules.specs.Marks.{marksStages}
-use Rattle.rules.specs.Calls.{Lent, Outcome, Sent, answers, noneTaken, reactCall, refuse, takeEvent}
+use Rattle.rules.specs.Calls.{Outcome, Sent, answers, noneTaken, reactCall, refuse, takeEvent}
 use Rattle.theory.specs.Logic.{both-left, both-right, clash}
 use Rattle.totals.specs.Sum.{totalsOf, addTotals, Counted}
 use Rattle.totals.specs.declared.Totals as Code

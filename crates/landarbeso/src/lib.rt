@@ -6,7 +6,7 @@ ghost use Rattle.rules.specs.Lists.{listCall};
 ghost use Rattle.rules.specs.Query.{queryCall};
 ghost use Rattle.rules.specs.Remaining.{remainingCall};
 ghost use Rattle.totals.specs.Sum.{totalsOf};
-ghost use Rattle.calls.specs.Answers.{lent, lentOf, sentOf, Uncounted, Ran};
+ghost use Rattle.calls.specs.Answers.{lent, lentOf, sentOf, Uncounted};
 ghost use Rattle.landarbeso.specs.Numbers.{numbersOf, queriedOf, Remains};
 ghost use Rattle.landarbeso.specs.Counted.{Meant};
 

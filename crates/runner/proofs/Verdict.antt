@@ -18,7 +18,7 @@ use Rattle.acceptance.specs.Verdicts.{verdictOf}
 use Rattle.acceptance.specs.declared.Announced.{Announced}
 use Rattle.acceptance.specs.declared.Checked.{Checked}
 use Rattle.acceptance.specs.declared.Checked.the-variants.{Accepted}
-use Rattle.acceptance.proofs.Refusals.{sized}
+use Rattle.table.proofs.Passed.{sized}
 use Rattle.marks.specs.Found.{firstOf}
 use Rattle.marks.specs.declared.fitting.Found.{Found}
 use Rattle.marks.specs.declared.fitting.Found.the-variants.{At, Nothing}
@@ -49,7 +49,7 @@ module _ (b es : List ℕ) {x : Checked} (e : verdictOf x ≡ judged b (tableSta
 
 pub few-records : (b es : List ℕ) {a : Announced} → verdictOf (Accepted a) ≡ judged b (runnerStages b es) → recordsOf b ≤ mostRecords
 unfolding judged firstRefusal tableStages
-few-records b es {a} e = (sized b (sym (go (goodLength b) _ (announced b) e)) refl) .most
+few-records b es {a} e = sized b (go (goodLength b) _ (announced b) e) .most
   where
     go : (g : Bool) (later : Option Refusal) (n : Rules.Announced) → verdictOf (Accepted a) ≡ verdict (orElse (unless g) 1 later) n → g ≡ true
     go true later n e = refl

@@ -6,9 +6,6 @@ use Rattle.landarbeso.specs.Numbers.{numbersOf}
 use borrow.Author.Needs.{needs}
 use Rattle.landarbeso.proofs.landarbeso_check.Statement.{statement}
 use Rattle.landarbeso.proofs.landarbeso_check.Tie as tie
-use Rattle.landarbeso.proofs.landarbeso_check.Reads as reads
-use Rattle.landarbeso.proofs.landarbeso_check.Lts as lts
-use Rattle.acceptance.proofs.check.Reads as check-reads
 
 check-requires : tie.Need-check-requires
 check-requires c κs = search needs

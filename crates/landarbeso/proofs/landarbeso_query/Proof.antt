@@ -4,10 +4,6 @@ use Rattle.landarbeso.proofs.Verdicts.{query-refused, query-asked, pass
 use borrow.Author.Needs.{needs}
 use Rattle.landarbeso.proofs.landarbeso_query.Statement.{statement}
 use Rattle.landarbeso.proofs.landarbeso_query.Tie as tie
-use Rattle.landarbeso.proofs.landarbeso_query.Reads as reads
-use Rattle.landarbeso.proofs.landarbeso_query.Lts as lts
-use Rattle.landarbeso.proofs.stages.marks_stages.Reads as marks-stages-reads
-use Rattle.marks.proofs.ask.Reads as ask-reads
 
 marks-stages-requires : tie.Need-marks-stages-requires
 marks-stages-requires c κs = search needs

@@ -5,11 +5,6 @@ use Rattle.landarbeso.proofs.Verdicts.{passed-marks, remains-refused, r
 use borrow.Author.Needs.{needs}
 use Rattle.landarbeso.proofs.landarbeso_remaining.Statement.{statement}
 use Rattle.landarbeso.proofs.landarbeso_remaining.Tie as tie
-use Rattle.landarbeso.proofs.landarbeso_remaining.Reads as reads
-use Rattle.landarbeso.proofs.landarbeso_remaining.Lts as lts
-use Rattle.landarbeso.proofs.stages.marks_stages.Reads as marks-stages-reads
-use Rattle.marks.proofs.remaining_span.Reads as remaining-span-reads
-use Rattle.marks.proofs.write_remaining.Reads as write-remaining-reads
 
 marks-stages-requires : tie.Need-marks-stages-requires
 marks-stages-requires c κs = search needs

@@ -24,10 +24,10 @@ use Rattle.calls.proofs.list.stop_at.Reads as stop-at-reads
 use Rattle.calls.proofs.list.take_event.Reads as take-event-reads
 
 abbrev Inv-loop : tie.InvT-loop
-Inv-loop table marks vars events out₀ steps outputs st₀ held₀ counts₀ emitted₀ highest₀ i₀ out st held counts emitted highest i = Going table (lent marks vars out₀) events i st held out counts emitted highest
+Inv-loop table announced marks vars events out₀ st₀ held₀ counts₀ emitted₀ highest₀ i₀ out st held counts emitted highest i = Going table (lent marks vars out₀) events i st held out counts emitted highest
 
 abbrev μ-loop : tie.MeasureT-loop
-μ-loop table marks vars events out₀ steps outputs st₀ held₀ counts₀ emitted₀ highest₀ i₀ out st held counts emitted highest i = length events / 8 - i
+μ-loop table announced marks vars events out₀ st₀ held₀ counts₀ emitted₀ highest₀ i₀ out st held counts emitted highest i = length events / 8 - i
 
 load-marks-requires : tie.Need-load-marks-requires Inv-loop μ-loop
 load-marks-requires c κs = (ready-few (run-ready (c .before .before .before .before .before .before .args .table .now) (c .before .before .before .before .before .before .args .marks .now) (c .before .before .before .before .before .before .args .vars .now) (c .before .before .before .before .before .before .args .events .now) (c .before .before .before .before .before .before .args .out .now) (c .before .before .before .before .before .before .pre .0)), refl)

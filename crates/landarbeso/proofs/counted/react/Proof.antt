@@ -6,9 +6,6 @@ use Rattle.landarbeso.proofs.Counting.{reacted-one, reacted-none}
 use borrow.Author.Needs.{needs}
 use Rattle.landarbeso.proofs.counted.react.Statement.{statement}
 use Rattle.landarbeso.proofs.counted.react.Tie as tie
-use Rattle.landarbeso.proofs.counted.react.Reads as reads
-use Rattle.landarbeso.proofs.counted.react.Lts as lts
-use Rattle.calls.proofs.react.Reads as react-reads
 
 react-requires : tie.Need-react-requires
 react-requires c κs = search needs

@@ -11,10 +11,6 @@ use Rattle.landarbeso.proofs.Verdicts.{passes-sound}
 use borrow.Author.Needs.{needs}
 use Rattle.landarbeso.proofs.stages.marks_stages.Statement.{statement}
 use Rattle.landarbeso.proofs.stages.marks_stages.Tie as tie
-use Rattle.landarbeso.proofs.stages.marks_stages.Reads as reads
-use Rattle.landarbeso.proofs.stages.marks_stages.Lts as lts
-use Rattle.acceptance.proofs.check.Reads as check-reads
-use Rattle.marks.proofs.marks_refused.Reads as marks-refused-reads
 
 check-requires : tie.Need-check-requires
 check-requires c κs = search needs
