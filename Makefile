@@ -1,6 +1,6 @@
 # archive: target/archive has the library and its header, for C and C++ on x86-64.
-# test: every test of tests/. bench, soak: not there yet.
-.PHONY: archive test bench soak
+# test: every test of tests/, after the proofs (the gate, .ci/run, does both). bench: instructions per call. soak: millions of calls compared.
+.PHONY: archive test
 
 archive:
 	rt staticlib landarbeso
@@ -10,5 +10,10 @@ archive:
 test:
 	for test in tests/*/run; do $$test || exit 1; done
 
-bench soak:
-	@echo "$@: not there yet" >&2; exit 1
+BENCH_OWN_ARCHIVE := target/archive/liblandarbeso.a
+BENCH_ARCHIVE := target/archive/liblandarbeso.a
+include tests/bench/bench.mk
+include tests/comparison/comparison.mk
+
+$(BENCH_ARCHIVE):
+	$(MAKE) archive
