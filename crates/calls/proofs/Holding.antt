@@ -18,7 +18,8 @@ use Rattle.rules.specs.Run.{Ran, reaction, start}
 use Rattle.rules.specs.Calls.{Lent, Sent, Taken, Totals, joinRun, noneTaken, takeEvent}
 use Rattle.theory.specs.Logic.{both-right}
 use Rattle.theory.specs.Accepted.{accepted-check}
-use Rattle.theory.specs.Demand.{Ended, reaction-ends, start-ends}
+use Rattle.theory.specs.Demand.{Ended}
+use Rattle.theory.specs.DemandProof.{reaction-ends, start-ends}
 use Rattle.theory.specs.Calls.{Held, start-vars, take-held}
 use Rattle.theory.specs.Follow.{begun}
 use Rattle.theory.specs.State.{Counted, counted, counting}

@@ -18,7 +18,7 @@ use Rattle.rules.specs.Table.{kindAt, nameAt, secondAt, programOf, inKindsTable
 use Rattle.rules.specs.Marks.{marked, mayMark, marksStages, restSeq, restIf, restLoop, restPar, restOf, orNop, atRest, misfit, parMisfit, misfits}
 use Rattle.rules.specs.Query.{stirs, awaited}
 use Rattle.theory.specs.Marks.{parts}
-use Rattle.theory.specs.Demand.{fitting}
+use Rattle.theory.specs.Accepted.{fitting}
 use Rattle.table.specs.Kinds.{childrenOf}
 use Rattle.table.specs.Places.{Place, treeOf, Node, aNop, anAct, anAwait, anEmit, aBreak, anIf, aSeq, aLoop, anEvery, aPar, aFin}
 use Rattle.table.proofs.Trees.{node-at}

@@ -1,10 +1,9 @@
 -- Demand 3. A start or a reaction of an accepted table comes to its end, at rest at level 0, within the announced numbers,
--- and leaves marks that stage 8 lets pass and that read back to the tree it left. All names in the statements are those of the rules.
+-- and leaves marks that stage 8 lets pass and that read back to the tree it left. Only the rules are cited here; DemandProof has the proof.
 use mathlib.Core.Path.{_≡_}
 use mathlib.Core.List.{List}
 use mathlib.Core.Option.{none}
 use Prim.Native.Nat.{ℕ, _≤_}
-use native.Mathlib.Omega.{arith}
 use lib.Dec.{T}
 use lib.IntN.{ℤ}
 use lib.ListN.{length}
@@ -15,9 +14,6 @@ use Rattle.rules.specs.Check.{accepted, check}
 use Rattle.rules.specs.Marks.{allZero, atRest, marksOf, marksStages}
 use Rattle.rules.specs.Step.{blocked, front, isDone, nopOrBlocked, step}
 use Rattle.rules.specs.Run.{Ran, reaction, start}
-use Rattle.theory.specs.DemandOnTrees.{Done}
-use Rattle.theory.specs.DemandProof.{passes-again, all-zero-is, reads-back, reads-nop, reaction-done, start-done}
-pub use Rattle.theory.specs.Accepted.{Accepted, accepts, fitting}
 
 -- how a run r of the table b, with the announced numbers a, ends
 pub record Ended (b : List ℕ) (a : Announced) (r : Ran) : Type 0 where
@@ -38,26 +34,10 @@ pub record Ended (b : List ℕ) (a : Announced) (r : Ran) : Type 0 where
   pub highest : r .count .highest ≤ a .highest
   pub outputs : length (r .last .memory .outs) ≤ a .outputs
 
-ends : (b : List ℕ) (a : Announced) → Accepted b a → (r : Ran) → Done (programOf b) a r → Ended b a r
-ends b a k r d = record {
-  still = d .still;
-  ground = d .rests .ground;
-  heard = d .rests .heard;
-  idles = d .rests .idles;
-  fits = passes-again b a k (r .last .tree) (d .of) (d .live) (d .rests .idles);
-  finished = all-zero-is b a k (r .last .tree) (d .of) (d .live) (d .rests .idles);
-  again = reads-back b a k (r .last .tree) (d .of) (d .live);
-  over = reads-nop b a k (r .last .tree) (d .of) (d .live);
-  steps = omega (arith, d .steps);
-  emitted = omega (arith, d .emitted);
-  highest = omega (arith, d .highest);
-  outputs = omega (arith, d .outputs);
-}
-
 -- the reaction: for every table that the check accepts, all marks that stage 8 lets pass, all variables, every event and value
-pub reaction-ends : (b : List ℕ) (a : Announced) → check b ≡ accepted a → (m : List ℕ) → firstRefusal (marksStages b m) ≡ none → (x : List ℤ) (e : ℕ) (z : ℤ) → Ended b a (reaction b m x e z)
-reaction-ends b a c m f x e z = ends b a (accepts b a c) (reaction b m x e z) (reaction-done b a (accepts b a c) m f x e z)
+abbrev pub ReactionEnds : Type 0
+ReactionEnds = (b : List ℕ) (a : Announced) → check b ≡ accepted a → (m : List ℕ) → firstRefusal (marksStages b m) ≡ none → (x : List ℤ) (e : ℕ) (z : ℤ) → Ended b a (reaction b m x e z)
 
 -- the start: for every table that the check accepts, and all variables
-pub start-ends : (b : List ℕ) (a : Announced) → check b ≡ accepted a → (x : List ℤ) → Ended b a (start b x)
-start-ends b a c x = ends b a (accepts b a c) (start b x) (start-done b a (accepts b a c) x)
+abbrev pub StartEnds : Type 0
+StartEnds = (b : List ℕ) (a : Announced) → check b ≡ accepted a → (x : List ℤ) → Ended b a (start b x)

@@ -1,4 +1,4 @@
--- The work behind Demand: the marks that a tree at rest writes pass stage 8 and read back to it, and the runs of an accepted table.
+-- Demand holds: the marks that a tree at rest writes pass stage 8 and read back to it, and the runs of an accepted table end as it says.
 use mathlib.Core.Path.{_≡_, refl, sym, subst}
 use mathlib.Core.Bool.{Bool, true, false, _&&_, _||_}
 use mathlib.Core.List.{List, [], _∷_}
@@ -15,7 +15,7 @@ use Rattle.rules.specs.Table.{kindAt, programOf, recordsOf}
 use Rattle.rules.specs.Check.{announced}
 use Rattle.rules.specs.Marks.{allZero, atRest, lengthStage, markRight, marksOf, marksStages, mayMark, misfits, waits}
 use Rattle.rules.specs.Step.{blocked, front, isDone, nopOrBlocked}
-use Rattle.rules.specs.Run.{faced, nothingYet, reaction, run, start}
+use Rattle.rules.specs.Run.{Ran, faced, nothingYet, reaction, run, start}
 use Rattle.theory.specs.Logic.{or-cases}
 use Rattle.theory.specs.Decode.{markable, left-waiting}
 use Rattle.theory.specs.Again.{member, Unmarked, Clean, clean, Reads}
@@ -25,7 +25,8 @@ use Rattle.theory.specs.WrittenMarks.{bit, written, written-length, read
 use Rattle.theory.specs.Ready.{Ready, ready-rest, ready-start}
 use Rattle.theory.specs.DemandOnTrees.{Done, complete}
 use Rattle.theory.specs.Stages.{join, no-stage, true-unless, all-pass}
-use Rattle.theory.specs.Accepted.{Accepted, fitting}
+use Rattle.theory.specs.Accepted.{Accepted, accepts, fitting}
+use Rattle.theory.specs.Demand.{Ended, ReactionEnds, StartEnds}
 
 -- ---- the marks that a tree at rest writes
 
@@ -77,3 +78,25 @@ reaction-done b a k m f x e z = run-done b a k e z (atRest m (programOf b)) x (r
 pub start-done : (b : List ℕ) (a : Announced) → Accepted b a → (x : List ℤ) → Done (programOf b) a (start b x)
 unfolding start
 start-done b a k x = run-done b a k 0 (pos 0) (programOf b) x (ready-start (k .depth) (programOf b) (k .program) (k .good) (k .closed))
+
+ends : (b : List ℕ) (a : Announced) → Accepted b a → (r : Ran) → Done (programOf b) a r → Ended b a r
+ends b a k r d = record {
+  still = d .still;
+  ground = d .rests .ground;
+  heard = d .rests .heard;
+  idles = d .rests .idles;
+  fits = passes-again b a k (r .last .tree) (d .of) (d .live) (d .rests .idles);
+  finished = all-zero-is b a k (r .last .tree) (d .of) (d .live) (d .rests .idles);
+  again = reads-back b a k (r .last .tree) (d .of) (d .live);
+  over = reads-nop b a k (r .last .tree) (d .of) (d .live);
+  steps = omega (arith, d .steps);
+  emitted = omega (arith, d .emitted);
+  highest = omega (arith, d .highest);
+  outputs = omega (arith, d .outputs);
+}
+
+pub reaction-ends : ReactionEnds
+reaction-ends b a c m f x e z = ends b a (accepts b a c) (reaction b m x e z) (reaction-done b a (accepts b a c) m f x e z)
+
+pub start-ends : StartEnds
+start-ends b a c x = ends b a (accepts b a c) (start b x) (start-done b a (accepts b a c) x)

@@ -24,7 +24,8 @@ use Rattle.theory.specs.RunKeeps.{run-keeps}
 use Rattle.theory.specs.Invariant.{Ok, ok-keeps, idle-stuck, ended}
 use Rattle.theory.specs.Ready.{ready-rest, ready-start}
 use Rattle.theory.specs.DemandOnTrees.{first-ok}
-use Rattle.theory.specs.Demand.{accepts, reaction-ends, start-ends, fitting}
+use Rattle.theory.specs.Accepted.{accepts, fitting}
+use Rattle.theory.specs.DemandProof.{reaction-ends, start-ends}
 use Rattle.theory.specs.Big.{Fate, ends, breaks, waits, amiss, rings, Out, resume, Chain, c-done, c-step, Over, over, Fallen, fallen, Rung, Meets, resume-is}
 
 -- ---- runs of single steps

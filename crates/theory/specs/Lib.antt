@@ -29,8 +29,8 @@ pub mod Decode
 pub mod Ranges
 pub mod Walk
 pub mod Accepted
-pub mod DemandProof
 pub mod Demand
+pub mod DemandProof
 pub mod Back
 -- calls and lists
 pub mod Calls

@@ -24,7 +24,8 @@ use Rattle.theory.specs.Again.{member}
 use Rattle.theory.specs.WrittenMarks.{bit, written}
 use Rattle.theory.specs.Decode.{markable}
 use Rattle.theory.specs.Stages.{none-fails, next}
-use Rattle.theory.specs.Demand.{Accepted, accepts, fitting, reaction-ends, start-ends}
+use Rattle.theory.specs.Accepted.{Accepted, accepts, fitting}
+use Rattle.theory.specs.DemandProof.{reaction-ends, start-ends}
 use Rattle.theory.specs.Big as Big
 use Rattle.theory.specs.Follow.{begun, big, bigReaction, bigStart, oneStep, reaction-big, start-big}
 use Rattle.theory.specs.Sound.{Sound, sound}
