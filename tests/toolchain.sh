@@ -1,20 +1,18 @@
 # shellcheck shell=sh disable=SC2034
 # Sourced by every test in C: how C is compiled for the archive, which is for x86-64, and how a program of it is run.
 #   cc, cxx     the compilers
-#   link        what every link takes besides
 #   emulator    what runs a program; empty where the machine itself does
 case $(uname -m) in
 x86_64)
     cc=gcc
     cxx=g++
-    link=
     emulator=
     ;;
 *)
     cc=x86_64-linux-gnu-gcc
     cxx=x86_64-linux-gnu-g++
-    link=-static
-    emulator=qemu-x86_64
+    # the C library for x86-64 stands where Debian's cross compiler has it
+    emulator="qemu-x86_64 -L /usr/x86_64-linux-gnu"
     ;;
 esac
 warnings="-Wall -Wextra -Wpedantic -Werror"

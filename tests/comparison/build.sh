@@ -22,5 +22,5 @@ link_with() {
     program=$1 target=$2
     shift 2
     # shellcheck disable=SC2086
-    $cc $flags -o "$program" "$target"/own/*.o "$target"/independent/*.o "$@" $link
+    $cc $flags -o "$program" "$target"/own/*.o "$target"/independent/*.o "$@"
 }

@@ -16,7 +16,7 @@ use Rattle.rules.specs.Marks.{lengthStage, marksStages}
 use Rattle.rules.specs.Run.{start}
 use Rattle.rules.specs.Calls.{Lent, Outcome, Taken, answers, eventStage, joinRun, noneTaken, onto, reactCall, roomStage, startCall, takeEvent, tested, varsStage}
 use Rattle.theory.specs.Stages.{first-append, next, unless-true}
-use Rattle.theory.specs.Calls.{enough-vars, none-held}
+use Rattle.theory.specs.Calls.{enough-vars, none-held, roomy}
 use Rattle.theory.specs.Round.{begin, react}
 use Rattle.table.specs.Places.{treeOf}
 use Rattle.memory.specs.Arrays.{Arrays, arrays}
@@ -31,9 +31,6 @@ use Rattle.calls.specs.Stages.{reactStages, startStages}
 use Rattle.calls.proofs.Passed.{passed-few}
 use Rattle.calls.proofs.Answering.{answered, marks-sized, tested-passed}
 use Rattle.calls.proofs.Holding.{Holds, starts, takes-event}
-
-roomy : (n : ℕ) (room : List ℕ) → firstRefusal (roomStage n room ∷ []) ≡ none → n ≤ length room / recordBytes
-roomy n room e = leb→le n (length room / recordBytes) (unless-true (leb n (length room / recordBytes)) (next (roomStage n room) [] e .clean))
 
 -- what the stages of a call say, but for the events
 pub record Ready (b m : List ℕ) (v : List ℤ) : Type 0 where

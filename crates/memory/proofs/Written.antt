@@ -14,13 +14,9 @@ use Rattle.rules.specs.Limits.{recordBytes, topTotal}
 use Rattle.rules.specs.Number.{bytes32}
 use Rattle.rules.specs.Memory.{Output}
 use Rattle.rules.specs.Calls.{outBytes, onto}
+use Rattle.rules.proofs.Buffers.{bytes-length, onto-length}
 use Rattle.memory.specs.Arrays.{putOutput}
 use Rattle.memory.specs.Stands.{fitting}
-
-pub bytes-length : (os : List Output) → length (outBytes os) ≡ recordBytes * length os
-unfolding outBytes
-bytes-length [] = refl
-bytes-length (o ∷ os) = omega (arith, bytes-length os)
 
 -- name, three zeros, value
 abbrev pub recordOf : ℕ → ℤ → List ℕ
@@ -33,9 +29,6 @@ pub bytes-after : (os : List Output) (o : ℕ) (z : ℤ) → outBytes (os ++ mad
 unfolding outBytes
 bytes-after [] o z = refl
 bytes-after (p ∷ os) o z = rw (bytes-after os o z)
-
-pub onto-length : (new old : List ℕ) → length new ≤ length old → length (onto new old) ≡ length old
-onto-length new old h = simp (length-append, length-drop) (omega arith)
 
 -- a run of stores right behind what was written
 pub sets-behind : (new old vs : List ℕ) (i : ℕ) → length new ≡ i → i + length vs ≤ length old → sets (onto new old) i vs ≡ onto (new ++ vs) old

@@ -18,6 +18,7 @@ use Rattle.rules.specs.Memory.{Output}
 use Rattle.rules.specs.Step.{Description, step}
 use Rattle.rules.specs.Run.{Count, Ran, faced, nothingYet, reaction, run, start}
 use Rattle.rules.specs.Calls.{Lent, Outcome, Sent, Taken, Totals, answers, countReaction, eventStage, joinRun, noneTaken, onto, outBytes, reactCall, refuse, roomStage, startCall, takeEvent, tested, varsStage}
+use Rattle.rules.proofs.Buffers.{bytes-length, onto-length}
 use Rattle.theory.specs.Logic.{clash}
 use Rattle.theory.specs.Memory.{effect-vars}
 use Rattle.theory.specs.Steps.{Steps, pushes, pops, inside, step-is-rule}
@@ -56,16 +57,6 @@ tested-none ss l o e = go (firstRefusal ss) refl e
     go : (f : Option Refusal) → firstRefusal ss ≡ f → option o (refuse l) f .refused ≡ none → (f ≡ none) × (option o (refuse l) f ≡ o)
     go none x y = (refl, refl)
     go (some r) x y = clash (cc)
-
--- ---- the output buffer keeps its length
-
-bytes-length : (os : List Output) → length (outBytes os) ≡ 8 * length os
-unfolding outBytes
-bytes-length [] = refl
-bytes-length (o ∷ os) = omega (arith, bytes-length os)
-
-onto-length : (new old : List ℕ) → length new ≤ length old → length (onto new old) ≡ length old
-onto-length new old h = omega (arith, length-append new (drop (length new) old), length-drop (length new) old)
 
 -- ---- what an outcome leaves passes its stages again
 
@@ -112,7 +103,7 @@ pub record Bounded (a : Announced) (o : Outcome) : Type 0 where
 abbrev lastStages : List ℕ → Lent → List Stage
 lastStages b l = roomStage (announced b .outputs) (l .room) ∷ []
 
-roomy : (n : ℕ) (room : List ℕ) → firstRefusal (roomStage n room ∷ []) ≡ none → n ≤ length room / recordBytes
+pub roomy : (n : ℕ) (room : List ℕ) → firstRefusal (roomStage n room ∷ []) ≡ none → n ≤ length room / recordBytes
 roomy n room e = leb→le n (length room / recordBytes) (unless-true (leb n (length room / recordBytes)) (next (roomStage n room) [] e .clean))
 
 pub enough-vars : (x : List ℤ) (ss : List Stage) → firstRefusal (varsStage x ∷ ss) ≡ none → length x ≡ variables

@@ -120,7 +120,7 @@ walk-size a (canrun i k) h = absurd h
 walk-size a (atLoop i p q) h = absurd h
 walk-size a (atPar i o p q) h = absurd h
 
-count-append : (f : Visit → Bool) (a b : List Visit) → length (hits f (a ++ b)) ≡ length (hits f a) + length (hits f b)
+pub count-append : (f : Visit → Bool) (a b : List Visit) → count f (a ++ b) ≡ count f a + count f b
 count-append f a b = ap length (hits-append f a b) ∙ length-append (hits f a) (hits f b)
 
 pub walk-emits : (a : Around) (t : Tree) → Program t → length (hits (isKind 10) (walk a t)) ≡ emitCount t
@@ -149,7 +149,7 @@ walk-emits a (canrun i k) h = absurd h
 walk-emits a (atLoop i p q) h = absurd h
 walk-emits a (atPar i o p q) h = absurd h
 
-deepest-append : (a b : List Visit) → deepest (a ++ b) ≡ max (deepest a) (deepest b)
+pub deepest-append : (a b : List Visit) → deepest (a ++ b) ≡ max (deepest a) (deepest b)
 unfolding deepest
 deepest-append [] b = omega arith
 deepest-append (v ∷ vs) b = omega (arith, deepest-append vs b)
