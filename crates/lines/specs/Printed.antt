@@ -4,7 +4,7 @@ use Prim.Native.Nat.{ℕ, zero, suc, _*_, _/_}
 use lib.Dec.{leb}
 use lib.IntN.{pos}
 use lib.ListN.{length, replicate}
-use Rattle.rules.specs.Stages.{unless, option, Refusal, Stage, stage, firstRefusal}
+use Rattle.rules.specs.Stages.{unless, option, Stage, stage, firstRefusal}
 use Rattle.rules.specs.Limits.{recordBytes, variables, runnerOutputs}
 use Rattle.rules.specs.Number.{num32}
 use Rattle.rules.specs.Table.{byteAt, recordsOf}

@@ -7,7 +7,7 @@ use Prim.Native.Nat.{ℕ, _+_, _*_, _/_, _%_, _≤_, _<_, min}
 use native.Mathlib.Omega.{arith}
 use lib.Dec.{ltb}
 use lib.IntN.{ℤ}
-use lib.ListN.{length, drop, length-append, length-drop, length-take}
+use lib.ListN.{length, drop, length-append, length-take}
 use lib.Seq.{sets, sets-eq, take-append-seam, drop-append-add, drop-drop, take-all, take-append-le}
 use borrow.Author.Tests.{lt-ltb, le-ltb, ltb-true, ltb-false}
 use Rattle.rules.specs.Limits.{recordBytes, topTotal}

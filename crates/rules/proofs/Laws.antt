@@ -1,7 +1,7 @@
 -- What examples 1 to 12 do not show of the definitions: laws that an easy error would break.
 -- Assumes nothing.
 use mathlib.Core.Path.{_≡_, refl}
-use mathlib.Core.Bool.{Bool, true, false}
+use mathlib.Core.Bool.{true, false}
 use Prim.Native.Nat.{ℕ, suc, _+_, min}
 use native.Mathlib.Omega.{arith}
 use lib.IntN.{ℤ}
@@ -10,8 +10,8 @@ use Rattle.rules.specs.Limits.{topTotal}
 use Rattle.rules.specs.Tree.{Tree, await, emit, seq, atPar, input, internal, Par}
 use Rattle.rules.specs.Check.{mayEnd}
 use Rattle.rules.specs.Memory.{Memory}
-use Rattle.rules.specs.Step.{Nested, stuck, moved, going, front, blocked, clear, inPart, parStep, nestedStep, Event, wakes, awake}
-use Rattle.rules.specs.Calls.{Totals, countReaction}
+use Rattle.rules.specs.Step.{Nested, stuck, moved, going, front, blocked, clear, inPart, parStep, nestedStep, wakes, awake}
+use Rattle.rules.specs.Calls.{countReaction}
 
 -- the tree after a nested step
 abbrev stepped : Nested → Tree → Tree

@@ -1,18 +1,17 @@
 -- The worked examples 1 to 12 of document 01, with every number that it gives: one table, and one theorem that the definitions give them.
 use mathlib.Core.Bool.{Bool, true, false, not, _&&_}
 use mathlib.Core.List.{List, [], _∷_, _++_}
-use mathlib.Core.Option.{Option, none, some}
 use Prim.Native.Nat.{ℕ, suc, _+_, _*_, _/_, _%_}
 use lib.Dec.{eqb, T}
 use lib.IntN.{ℤ, pos, negsuc}
-use lib.ListN.{length, getD, replicate}
+use lib.ListN.{getD, replicate}
 use Rattle.rules.specs.Stages.{isSome}
 use Rattle.rules.specs.Limits.{recordBytes, variables}
 use Rattle.rules.specs.Number.{bytes32}
 use Rattle.rules.specs.Table.{recordsOf}
 use Rattle.rules.specs.Check.{Verdict, check, announced}
 use Rattle.rules.specs.Check as Check
-use Rattle.rules.specs.Calls.{Outcome, Lent, Sent, onto, startCall, reactCall}
+use Rattle.rules.specs.Calls.{Outcome, Lent, onto, startCall, reactCall}
 
 -- ---- programs as records in preorder, each construct with its span
 

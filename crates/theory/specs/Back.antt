@@ -5,9 +5,9 @@ use mathlib.Core.List.{List, [], _∷_, _++_}
 use mathlib.Core.Option.{Option, none, some}
 use Prim.Native.Nat.{ℕ, suc, _+_, _<_}
 use native.Mathlib.Omega.{arith}
-use lib.Dec.{eqb, ltb, T, eqb→eq}
+use lib.Dec.{eqb, T, eqb→eq}
 use lib.ListN.{length, getD}
-use borrow.Author.Tests.{ltb-true, ltb-false, eqb-true, eqb-false}
+use borrow.Author.Tests.{eqb-true}
 use Rattle.rules.specs.Stages.{Stage, failing, firstRefusal, if_then_else_, stage}
 use Rattle.rules.specs.Limits.{Announced}
 use Rattle.rules.specs.Tree.{Tree, act, atLoop, atPar, await, break, canrun, emit, every, fin, ifvar, loop, nop, par, seq, spanOf}

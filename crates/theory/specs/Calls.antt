@@ -7,17 +7,16 @@ use Prim.Native.Nat.{ℕ, _+_, _*_, _/_, _≤_}
 use native.Mathlib.Omega.{arith}
 use lib.Dec.{eqb, leb, eqb→eq, leb→le}
 use lib.IntN.{ℤ, pos}
-use lib.ListN.{length, drop, length-set, length-append, length-drop}
+use lib.ListN.{length, length-set, length-append}
 use Rattle.rules.specs.Stages.{Refusal, Stage, firstRefusal, option}
 use Rattle.rules.specs.Limits.{Announced, recordBytes, variables}
 use Rattle.rules.specs.Tree.{Tree}
 use Rattle.rules.specs.Table.{programOf}
 use Rattle.rules.specs.Check.{announced, tableStages}
 use Rattle.rules.specs.Marks.{lengthStage, marksStages}
-use Rattle.rules.specs.Memory.{Output}
 use Rattle.rules.specs.Step.{Description, step}
 use Rattle.rules.specs.Run.{Count, Ran, faced, nothingYet, reaction, run, start}
-use Rattle.rules.specs.Calls.{Lent, Outcome, Sent, Taken, Totals, answers, countReaction, eventStage, joinRun, noneTaken, onto, outBytes, reactCall, refuse, roomStage, startCall, takeEvent, tested, varsStage}
+use Rattle.rules.specs.Calls.{Lent, Outcome, Sent, Taken, Totals, answers, countReaction, eventStage, joinRun, noneTaken, outBytes, reactCall, refuse, roomStage, startCall, takeEvent, tested, varsStage}
 use Rattle.rules.proofs.Buffers.{bytes-length, onto-length}
 use Rattle.theory.specs.Logic.{clash}
 use Rattle.theory.specs.Memory.{effect-vars}
