@@ -1,6 +1,6 @@
 -- The announced numbers of a table that passes the stages: from the counts of its walk, and below 2^32.
 -- Assumes nothing.
-use mathlib.Core.Path.{_≡_, refl, ap, _∙_}
+use mathlib.Core.Path.{_≡_, refl, sym, ap, _∙_}
 use mathlib.Core.List.{List}
 use Prim.Native.Nat.{ℕ, _+_, _*_, _≤_, _<_}
 use native.Mathlib.Omega.{arith}
@@ -32,11 +32,11 @@ pub record Counted (t : Tally) : Type 0 where
   pub small : Small 256 t
   pub deep : t .deepest ≤ 8
 
-pub counted : (b : List ℕ) → Place b 0 → recordsOf b ≤ mostRecords → deepest (visitsOf b) ≤ mostLoops → {a : Around} → a ≡ nothingAround → {t : Tally} → t ≡ tallyOf (walk a (treeOf b 0)) → Counted t
+pub counted : (b : List ℕ) → Place b 0 → recordsOf b ≤ mostRecords → deepest (visitsOf b) ≤ mostLoops → {t : Tally} → t ≡ tallyOf (visitsOf b) → Counted t
 unfolding tallyOf
-counted b p l d {a} e {t} q = record {
-  small = small-by q (walk-small b 0 p l a);
-  deep = omega (arith, ap (λ (t : Tally). t .deepest) q, ap deepest (whole-walk b e));
+counted b p l d {t} q = record {
+  small = small-by (q ∙ ap tallyOf (sym (whole-walk b refl))) (walk-small b 0 p l nothingAround);
+  deep = omega (arith, ap (λ (t : Tally). t .deepest) q);
 }
 
 -- the products of the announced numbers, with at most 256 records and 8 loops
@@ -66,10 +66,10 @@ ofTally n t = announce n (t .emits) (t .deepest) (t .outside) (t .inside)
 same : {e h s o e′ h′ s′ o′ : ℕ} → e ≡ e′ → h ≡ h′ → s ≡ s′ → o ≡ o′ → _≡_ {A = Rules.Announced} (record { emitted = e; highest = h; steps = s; outputs = o }) (record { emitted = e′; highest = h′; steps = s′; outputs = o′ })
 same p q r s = rw (p, q, r, s)
 
-module _ (b : List ℕ) (p : Place b 0) {a : Around} (e : a ≡ nothingAround) {t : Tally} (q : t ≡ tallyOf (walk a (treeOf b 0))) where
+module _ (b : List ℕ) (p : Place b 0) {t : Tally} (q : t ≡ tallyOf (visitsOf b)) where
   from-walk : ofTally (recordsOf b) t ≡ announced b
   unfolding announced tallyOf
-  from-walk = ap (ofTally (recordsOf b)) (q ∙ ap tallyOf (whole-walk b e)) ∙ rw (whole-length b p)
+  from-walk = ap (ofTally (recordsOf b)) q ∙ rw (whole-length b p)
 
   pub announces : {x y z w : ℕ} → x ≡ mostEmitted (t .emits) (t .deepest) → y ≡ mostLevel (mostEmitted (t .emits) (t .deepest)) → z ≡ mostSteps (recordsOf b) (t .deepest) (mostEmitted (t .emits) (t .deepest)) → w ≡ mostOutputs (t .outside) (t .inside) (t .deepest) (mostEmitted (t .emits) (t .deepest)) → _≡_ {A = Rules.Announced} (record { emitted = x; highest = y; steps = z; outputs = w }) (announced b)
   announces f g h i = same f g h i ∙ from-walk

@@ -5,7 +5,7 @@ use mathlib.Core.Bool.{Bool, true, false, not, _&&_, _||_}
 use mathlib.Core.List.{List}
 use Prim.Native.Nat.{ℕ, zero, suc, _+_, _≤_, _<_}
 use native.Mathlib.Omega.{arith}
-use lib.Dec.{eqb, ltb, leb, ltb→lt, leb→le}
+use lib.Dec.{T, eqb, ltb, leb, eqb→eq, leb→le}
 use borrow.Author.Tests.{lt-ltb, le-ltb, eq-eqb, ne-eqb, ltb-true, ltb-false}
 use Rattle.rules.specs.Stages.{if_then_else_}
 use Rattle.rules.specs.Tree.{Tree, assign, increase, copy, subtract, compare, divide, output, input, internal, and, or}
@@ -13,7 +13,6 @@ use Rattle.rules.specs.Table.{kindAt, secondAt}
 use Rattle.rules.specs.Check.{mayEnd, mayBreak}
 use Rattle.table.specs.Kinds.{childrenOf}
 use Rattle.table.specs.Places.{Place, treeOf, Node, aNop, anAct, anAwait, anEmit, aBreak, anIf, aSeq, aLoop, anEvery, aPar, aFin}
-use Rattle.theory.specs.Logic.{or-cases}
 use Rattle.table.proofs.Counting.{computed}
 use Rattle.table.proofs.Places.{children-most, over-19}
 use Rattle.table.proofs.Trees.{node-at}
@@ -128,16 +127,26 @@ module _ (b : List ℕ) (i : ℕ) (p : Place b i) {k : ℕ} (e : k ≡ kindAt b 
       pub ends-both : x ≡ false → mayEnd (treeOf b i) ≡ (mayEnd (treeOf b (i + 1)) && mayEnd (treeOf b (secondAt b i)))
       ends-both y = rw (ends-two l c, ← q, y)
 
--- a kind from 12 on has children
-has-child : ℕ → Bool
-has-child k = ltb k 12 || leb 1 (childrenOf k)
+-- a kind below 12 has no children, one from 12 on has some
+abbrev childrenFit : Bool → ℕ → Bool
+childrenFit true n = eqb n 0
+childrenFit false n = leb 1 n
+
+fits-at : ℕ → Bool
+fits-at k = childrenFit (ltb k 12) (childrenOf k)
+
+children-fit : (k : ℕ) → k < 20 → {x : Bool} → ltb k 12 ≡ x → T (childrenFit x (childrenOf k))
+unfolding fits-at childrenOf
+children-fit k h e = subst (λ (x : Bool). T (childrenFit x (childrenOf k))) e (computed fits-at 20 tt k h)
+
+pub leaf-kind : (k : ℕ) → k < 12 → childrenOf k ≡ 0
+leaf-kind k h = eqb→eq (childrenOf k) 0 (children-fit k (omega arith) (lt-ltb k 12 h))
 
 pub inner-kind : (k : ℕ) → 12 ≤ k → 1 ≤ childrenOf k
-unfolding has-child childrenOf
 inner-kind k h = go (ltb k 20) refl
   where
     go : (x : Bool) → ltb k 20 ≡ x → 1 ≤ childrenOf k
-    go true e = or-cases (ltb k 12) (leb 1 (childrenOf k)) (λ t. absurd (omega (arith, ltb→lt k 12 t))) (leb→le 1 (childrenOf k)) (computed has-child 20 tt k (ltb-true k 20 e))
+    go true e = leb→le 1 (childrenOf k) (children-fit k (ltb-true k 20 e) (le-ltb k 12 h))
     go false e = omega (arith, over-19 k (ltb-false k 20 e))
 
 pub two-children : (b : List ℕ) (i : ℕ) → Place b i → {k : ℕ} → k ≡ kindAt b i → 12 ≤ k → (childrenOf k ≡ 1 → ⊥) → 2 ≤ childrenOf (kindAt b i)

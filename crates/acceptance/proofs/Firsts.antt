@@ -12,18 +12,14 @@ use Rattle.rules.specs.Check.{Around, Visit, aLoop, anEvery, aFin, walk, hits}
 use Rattle.table.specs.Kinds.{childrenOf}
 use Rattle.table.specs.Places.{Place, treeOf}
 use Rattle.table.proofs.Places.{children-most}
-use Rattle.acceptance.specs.Places.{firstOf, Inside}
+use Rattle.table.specs.Found.{firstOf, orNext}
 use Rattle.acceptance.specs.Walks.{aroundOf, inner, visitAt, belowAt, first}
-use Rattle.acceptance.specs.declared.Found.{Found}
-use Rattle.acceptance.specs.declared.Found.the-variants.{At, Nothing}
+use Rattle.table.specs.declared.Found.{Found}
+use Rattle.table.specs.declared.Found.the-variants.{At, Nothing}
 use Rattle.acceptance.specs.declared.walks.Around as Code
 use Rattle.acceptance.proofs.Visits.{walk-at}
 
 -- ---- of a list
-
-abbrev pub orNext : Found → Found → Found
-orNext (At i) y = At i
-orNext Nothing y = y
 
 module _ (f : Visit → Bool) where
   hit : (v : Visit) (vs : List Visit) → f v ≡ true → first f (v ∷ vs) ≡ At (v .place)
@@ -84,6 +80,3 @@ pub loops-below : (k : ℕ) {i j : ℕ} (w a : Code.Around) → aroundOf w ≡ i
 loops-below k w a e h l =
     let n : w .loops ≡ inner k (aroundOf a) .loops = ap (λ (x : Around). x .loops) e in
     omega (arith, inner-loops k (aroundOf a))
-
-pub found-inside : (b : List ℕ) {x : Found} {m : ℕ} → x ≡ At m → Inside b x → m < recordsOf b
-found-inside b e h = subst (Inside b) e h

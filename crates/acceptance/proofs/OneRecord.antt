@@ -1,4 +1,4 @@
--- Stages 2 and 3 by the numbers that the code has: of children, of ranges; and the places from one on that fail.
+-- Stages 2 and 3 by the numbers that the code has: of children, of ranges.
 -- Assumes nothing.
 use mathlib.Core.Path.{_≡_, refl, sym, subst, _∙_}
 use mathlib.Core.Bool.{Bool, true, false, not, _&&_}
@@ -15,9 +15,7 @@ use Rattle.table.specs.Kinds.{arity, childrenOf, rowOf}
 use Rattle.table.specs.Places.{bitsAt}
 use Rattle.table.proofs.Counting.{each}
 use Rattle.table.proofs.Passed.{bits-range}
-use Rattle.acceptance.specs.Places.{firstOf}
 use Rattle.acceptance.specs.Records.{rangeOf, nameRange, numberRange}
-use Rattle.acceptance.specs.declared.Found.the-variants.{At, Nothing}
 
 -- ---- the span, by the number of children
 abbrev fitsBy : ℕ → List ℕ → ℕ → ℕ → Bool
@@ -112,25 +110,3 @@ module _ (b : List ℕ) (i : ℕ) {k : ℕ} (e : k ≡ kindAt b i) {v : ℕ} (d 
   number-says h {z} g s q =
       let w : inRange (rangeOf s) (pos z) ≡ inRange (rowAt b i .number) (numberAt b i) = rw (q, g, e) (bits-range (rowAt b i .number) (bitsAt b i)) in
       w ∙ sym (rw (← name-says, not-false x h))
-
--- ---- failing places
-pub all-left : (ok : ℕ → Bool) (n : ℕ) → firstOf (failing ok 0 n) ≡ firstOf (failing ok 0 (n - 0))
-all-left ok n = let e : n - 0 ≡ n = omega arith in rw e
-
-module _ (ok : ℕ → Bool) (i n : ℕ) (l : i < n) where
-  one-more : failing ok i (n - i) ≡ (if ok i then failing ok (i + 1) (n - (i + 1)) else i ∷ failing ok (i + 1) (n - (i + 1)))
-  unfolding failing
-  one-more =
-      let e : n - i ≡ suc (n - (i + 1)) = omega arith in
-      let f : i + 1 ≡ suc i = omega arith in
-      rw (e, f)
-
-  pub passes-here : ok i ≡ true → firstOf (failing ok i (n - i)) ≡ firstOf (failing ok (i + 1) (n - (i + 1)))
-  passes-here e = rw (one-more, e)
-
-  pub fails-here : ok i ≡ false → firstOf (failing ok i (n - i)) ≡ At i
-  fails-here e = rw (one-more, e)
-
-pub none-left : (ok : ℕ → Bool) (i n : ℕ) → n ≤ i → firstOf (failing ok i (n - i)) ≡ Nothing
-unfolding failing
-none-left ok i n h = let e : n - i ≡ 0 = omega arith in rw e

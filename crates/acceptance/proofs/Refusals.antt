@@ -1,12 +1,12 @@
 -- The verdict from the lowest failing places of the stages, and what a table that passes them has.
 -- Assumes nothing.
-use mathlib.Core.Path.{_≡_, refl, sym, _∙_}
+use mathlib.Core.Path.{_≡_, refl, sym, ap, subst, _∙_}
 use mathlib.Core.Bool.{Bool, true, false, not, _&&_}
 use mathlib.Core.List.{List, [], _∷_}
 use mathlib.Core.Option.{Option, some}
 use Prim.Native.Nat.{ℕ, suc, _≤_, max}
 use native.Mathlib.Omega.{arith}
-use lib.Dec.{leb}
+use lib.Dec.{T, leb}
 use borrow.Author.Tests.{not-true, not-false, leb-false}
 use Rattle.rules.specs.Stages.{if_then_else_, Refusal, refusal, orElse, firstRefusal, failing}
 use Rattle.rules.specs.Limits.{mostLoops}
@@ -14,25 +14,18 @@ use Rattle.rules.specs.Table.{recordsOf, shapeRight}
 use Rattle.rules.specs.Check.{refused, accepted, check, tableStages, announced, visitsOf, Visit, hits, isKind, deepLoop, deepest, goodLength}
 use Rattle.theory.specs.Logic.{clash}
 use Rattle.theory.specs.Stages.{none-fails}
+use Rattle.table.proofs.Finding.{found-fails, found-none}
 use Rattle.table.proofs.Passed.{Sized, sized}
 use Rattle.table.specs.Places.{Place}
-use Rattle.acceptance.specs.Places.{firstOf}
+use Rattle.table.specs.Found.{firstOf}
 use Rattle.acceptance.specs.Records.{rightAt}
 use Rattle.acceptance.specs.Walks.{failsOf}
+use Rattle.acceptance.specs.Counts.{allPass, tallyOf}
 use Rattle.acceptance.specs.Verdicts.{nodesVerdict}
-use Rattle.acceptance.specs.declared.Found.{Found}
-use Rattle.acceptance.specs.declared.Found.the-variants.{At, Nothing}
-
--- ---- one stage
-
--- what the code found of the failing places
-fails : (is : List ℕ) {x : Found} {p : ℕ} → x ≡ firstOf is → x ≡ At p → (k : ℕ) (later : Option Refusal) → orElse is k later ≡ some (refusal k p)
-fails [] e d k later = clash (cc)
-fails (i ∷ is) {x} {p} e d k later = let q : i ≡ p = cc in rw q
-
-pub none : (is : List ℕ) {x : Found} → x ≡ firstOf is → x ≡ Nothing → is ≡ []
-none [] e d = refl
-none (i ∷ is) e d = clash (cc)
+use Rattle.acceptance.specs.declared.counts.Tally.{Tally}
+use Rattle.table.specs.declared.Found.{Found}
+use Rattle.table.specs.declared.Found.the-variants.{At, Nothing}
+use Rattle.acceptance.proofs.Tallies.{none-hit}
 
 -- ---- the stages in their order
 module _ (b : List ℕ) where
@@ -43,16 +36,16 @@ module _ (b : List ℕ) where
   module _ {x : Bool} (e1 : x ≡ goodLength b) (h1 : not x ≡ false) where
     pub refused-2 : {y : Found} → y ≡ firstOf (failing (rightAt 2 b) 0 (recordsOf b)) → {p : ℕ} → y ≡ At p → check b ≡ refused (refusal 2 p)
     unfolding check tableStages firstRefusal
-    refused-2 e d = rw (← e1, not-false x h1, fails (failing (rightAt 2 b) 0 (recordsOf b)) e d)
+    refused-2 e d = rw (← e1, not-false x h1, found-fails (failing (rightAt 2 b) 0 (recordsOf b)) e d)
 
     module _ {y : Found} (e2 : y ≡ firstOf (failing (rightAt 2 b) 0 (recordsOf b))) (h2 : y ≡ Nothing) where
       pub refused-3 : {z : Found} → z ≡ firstOf (failing (rightAt 3 b) 0 (recordsOf b)) → {p : ℕ} → z ≡ At p → check b ≡ refused (refusal 3 p)
       unfolding check tableStages firstRefusal
-      refused-3 e d = rw (← e1, not-false x h1, none (failing (rightAt 2 b) 0 (recordsOf b)) e2 h2, fails (failing (rightAt 3 b) 0 (recordsOf b)) e d)
+      refused-3 e d = rw (← e1, not-false x h1, found-none (failing (rightAt 2 b) 0 (recordsOf b)) e2 h2, found-fails (failing (rightAt 3 b) 0 (recordsOf b)) e d)
 
       pub passed-3 : {z : Found} → z ≡ firstOf (failing (rightAt 3 b) 0 (recordsOf b)) → z ≡ Nothing → check b ≡ nodesVerdict b
       unfolding check tableStages firstRefusal nodesVerdict
-      passed-3 e d = rw (← e1, not-false x h1, none (failing (rightAt 2 b) 0 (recordsOf b)) e2 h2, none (failing (rightAt 3 b) 0 (recordsOf b)) e d)
+      passed-3 e d = rw (← e1, not-false x h1, found-none (failing (rightAt 2 b) 0 (recordsOf b)) e2 h2, found-none (failing (rightAt 3 b) 0 (recordsOf b)) e d)
 
 -- what the code found of a stage from 4 to 7
 abbrev Finds : List ℕ → ℕ → Found → Type 0
@@ -61,26 +54,26 @@ Finds b s x = x ≡ firstOf (hits (failsOf s) (visitsOf b))
 module _ (b : List ℕ) {x : Found} (e4 : Finds b 4 x) where
   pub refused-4 : {p : ℕ} → x ≡ At p → nodesVerdict b ≡ refused (refusal 4 p)
   unfolding nodesVerdict firstRefusal
-  refused-4 d = rw (fails (hits (failsOf 4) (visitsOf b)) e4 d)
+  refused-4 d = rw (found-fails (hits (failsOf 4) (visitsOf b)) e4 d)
 
   module _ (h4 : x ≡ Nothing) {y : Found} (e5 : Finds b 5 y) where
     pub refused-5 : {p : ℕ} → y ≡ At p → nodesVerdict b ≡ refused (refusal 5 p)
     unfolding nodesVerdict firstRefusal
-    refused-5 d = rw (none (hits (failsOf 4) (visitsOf b)) e4 h4, fails (hits (failsOf 5) (visitsOf b)) e5 d)
+    refused-5 d = rw (found-none (hits (failsOf 4) (visitsOf b)) e4 h4, found-fails (hits (failsOf 5) (visitsOf b)) e5 d)
 
     module _ (h5 : y ≡ Nothing) {z : Found} (e6 : Finds b 6 z) where
       pub refused-6 : {p : ℕ} → z ≡ At p → nodesVerdict b ≡ refused (refusal 6 p)
       unfolding nodesVerdict firstRefusal
-      refused-6 d = rw (none (hits (failsOf 4) (visitsOf b)) e4 h4, none (hits (failsOf 5) (visitsOf b)) e5 h5, fails (hits (failsOf 6) (visitsOf b)) e6 d)
+      refused-6 d = rw (found-none (hits (failsOf 4) (visitsOf b)) e4 h4, found-none (hits (failsOf 5) (visitsOf b)) e5 h5, found-fails (hits (failsOf 6) (visitsOf b)) e6 d)
 
       module _ (h6 : z ≡ Nothing) {w : Found} (e7 : Finds b 7 w) where
         pub refused-7 : {p : ℕ} → w ≡ At p → nodesVerdict b ≡ refused (refusal 7 p)
         unfolding nodesVerdict firstRefusal
-        refused-7 d = rw (none (hits (failsOf 4) (visitsOf b)) e4 h4, none (hits (failsOf 5) (visitsOf b)) e5 h5, none (hits (failsOf 6) (visitsOf b)) e6 h6, fails (hits (failsOf 7) (visitsOf b)) e7 d)
+        refused-7 d = rw (found-none (hits (failsOf 4) (visitsOf b)) e4 h4, found-none (hits (failsOf 5) (visitsOf b)) e5 h5, found-none (hits (failsOf 6) (visitsOf b)) e6 h6, found-fails (hits (failsOf 7) (visitsOf b)) e7 d)
 
         pub passed-7 : w ≡ Nothing → nodesVerdict b ≡ accepted (announced b)
         unfolding nodesVerdict firstRefusal
-        passed-7 d = rw (none (hits (failsOf 4) (visitsOf b)) e4 h4, none (hits (failsOf 5) (visitsOf b)) e5 h5, none (hits (failsOf 6) (visitsOf b)) e6 h6, none (hits (failsOf 7) (visitsOf b)) e7 d)
+        passed-7 d = rw (found-none (hits (failsOf 4) (visitsOf b)) e4 h4, found-none (hits (failsOf 5) (visitsOf b)) e5 h5, found-none (hits (failsOf 6) (visitsOf b)) e6 h6, found-none (hits (failsOf 7) (visitsOf b)) e7 d)
 
 -- ---- what the stages give
 
@@ -91,7 +84,7 @@ good-size b {x} e h = sized b (sym e ∙ not-false x h)
 -- stage 2: the shape
 pub shaped : (b : List ℕ) → Sized b → {y : Found} → y ≡ firstOf (failing (rightAt 2 b) 0 (recordsOf b)) → y ≡ Nothing → Place b 0
 shaped b s e d = record {
-  shape = λ j l. none-fails (shapeRight b (recordsOf b)) 0 (recordsOf b) (none (failing (rightAt 2 b) 0 (recordsOf b)) e d) j (omega arith) (omega arith);
+  shape = λ j l. none-fails (shapeRight b (recordsOf b)) 0 (recordsOf b) (found-none (failing (rightAt 2 b) 0 (recordsOf b)) e d) j (omega arith) (omega arith);
   inside = s .some;
 }
 
@@ -107,4 +100,17 @@ shallow (v ∷ vs) e = go (shallow vs) (isKind 14 v) (leb mostLoops (v .around .
     go f false w q e = omega (arith, f e)
 
 pub few-loops : (b : List ℕ) {z : Found} → Finds b 6 z → z ≡ Nothing → deepest (visitsOf b) ≤ mostLoops
-few-loops b e d = shallow (visitsOf b) (none (hits (failsOf 6) (visitsOf b)) e d)
+few-loops b e d = shallow (visitsOf b) (found-none (hits (failsOf 6) (visitsOf b)) e d)
+
+-- ---- where the tally is right, no stage from 4 to 7 fails
+module _ (b : List ℕ) {t : Tally} (e : t ≡ tallyOf (visitsOf b)) (h : t .right ≡ true) where
+  all-pass : T (allPass (visitsOf b))
+  unfolding tallyOf
+  all-pass = subst T (sym h ∙ ap (λ (t : Tally). t .right) e) tt
+
+  pub right-loops : deepest (visitsOf b) ≤ mostLoops
+  right-loops = shallow (visitsOf b) (none-hit 6 (visitsOf b) all-pass)
+
+  pub right-accepted : nodesVerdict b ≡ accepted (announced b)
+  unfolding nodesVerdict firstRefusal
+  right-accepted = rw (none-hit 4 (visitsOf b) all-pass, none-hit 5 (visitsOf b) all-pass, none-hit 6 (visitsOf b) all-pass, none-hit 7 (visitsOf b) all-pass)

@@ -1,27 +1,28 @@
 -- What the walk from a place counts, and how far it can count.
 -- Assumes nothing.
 use mathlib.Core.Path.{_≡_, refl, sym, ap, subst, _∙_}
-use mathlib.Core.Bool.{Bool, true, false, not, _&&_}
+use mathlib.Core.Bool.{Bool, true, false, not, _&&_, _||_, and-assoc, and-true}
 use mathlib.Core.List.{List, [], _∷_, _++_}
 use Prim.Native.Nat.{ℕ, suc, _+_, _≤_, max}
 use native.Mathlib.Omega.{arith}
-use lib.Dec.{eqb}
+use lib.Dec.{T, eqb}
 use lib.ListN.{length}
 use Rattle.rules.specs.Stages.{if_then_else_}
 use Rattle.rules.specs.Table.{kindAt, secondAt, recordsOf}
-use Rattle.rules.specs.Check.{Around, Visit, walk, hits, count, deepest, isKind, outsideEvery, insideEvery}
+use Rattle.rules.specs.Check.{Around, Visit, walk, hits, count, deepest, isKind, outsideEvery, insideEvery, looseBreak, notPlain, deepLoop, endlessLoop}
+use Rattle.theory.specs.Logic.{both-left, both-right}
 use Rattle.theory.specs.Walk.{walk-size}
 use Rattle.table.specs.Kinds.{childrenOf}
 use Rattle.table.specs.Places.{Place, treeOf}
 use Rattle.table.proofs.Places.{children-most}
 use Rattle.table.proofs.Trees.{tree-span, tree-program, span-inside}
-use Rattle.acceptance.specs.Walks.{inner, visitAt, belowAt}
-use Rattle.acceptance.specs.Counts.{tallied, tallyOf, sumOf, oneIf, ownTally}
+use Rattle.acceptance.specs.Walks.{inner, visitAt, belowAt, failsOf, passes}
+use Rattle.acceptance.specs.Counts.{tallied, allPass, tallyOf, sumOf, oneIf, ownTally}
 use Rattle.acceptance.specs.declared.counts.Tally.{Tally}
 use Rattle.acceptance.proofs.Visits.{walk-at}
 
-same : {e d o n e′ d′ o′ n′ : ℕ} → e ≡ e′ → d ≡ d′ → o ≡ o′ → n ≡ n′ → tallied e d o n ≡ tallied e′ d′ o′ n′
-same p q r s = rw (p, q, r, s)
+same : {e d o n e′ d′ o′ n′ : ℕ} {r r′ : Bool} → e ≡ e′ → d ≡ d′ → o ≡ o′ → n ≡ n′ → r ≡ r′ → tallied e d o n r ≡ tallied e′ d′ o′ n′ r′
+same p q r s t = rw (p, q, r, s, t)
 
 -- ---- of a list
 
@@ -43,9 +44,14 @@ unfolding deepest
 deepest-append [] vs = omega arith
 deepest-append (u ∷ us) vs = omega (arith, deepest-append us vs)
 
-tally-cons : (v : Visit) (vs : List Visit) → tallyOf (v ∷ vs) ≡ sumOf (ownTally (v .kind) (v .around)) (tallyOf vs)
-unfolding tallyOf ownTally deepest
-tally-cons v vs = same (count-cons (isKind 10) v vs) (go (eqb (v .kind) 14)) (count-cons outsideEvery v vs) (count-cons insideEvery v vs)
+pass-append : (us vs : List Visit) → allPass (us ++ vs) ≡ (allPass us && allPass vs)
+unfolding allPass
+pass-append [] vs = refl
+pass-append (u ∷ us) vs = ap (λ x. passes u && x) (pass-append us vs) ∙ sym (and-assoc (passes u) (allPass us) (allPass vs))
+
+tally-cons : (v : Visit) (vs : List Visit) → tallyOf (v ∷ vs) ≡ sumOf (ownTally (v .kind) (v .around) (passes v)) (tallyOf vs)
+unfolding tallyOf ownTally deepest allPass
+tally-cons v vs = same (count-cons (isKind 10) v vs) (go (eqb (v .kind) 14)) (count-cons outsideEvery v vs) (count-cons insideEvery v vs) refl
   where
     go : (x : Bool) → max (if x then suc (v .around .loops) else 0) (deepest vs) ≡ max (if x then v .around .loops + 1 else 0) (deepest vs)
     go true = omega arith
@@ -53,20 +59,39 @@ tally-cons v vs = same (count-cons (isKind 10) v vs) (go (eqb (v .kind) 14)) (co
 
 tally-append : (us vs : List Visit) → tallyOf (us ++ vs) ≡ sumOf (tallyOf us) (tallyOf vs)
 unfolding tallyOf
-tally-append us vs = same (count-append (isKind 10) us vs) (deepest-append us vs) (count-append outsideEvery us vs) (count-append insideEvery us vs)
+tally-append us vs = same (count-append (isKind 10) us vs) (deepest-append us vs) (count-append outsideEvery us vs) (count-append insideEvery us vs) (pass-append us vs)
 
 tally-nil : (t : Tally) → sumOf t (tallyOf []) ≡ t
-unfolding tallyOf deepest hits
-tally-nil t = same (omega arith) (omega arith) (omega arith) (omega arith)
+unfolding tallyOf deepest hits allPass
+tally-nil t = same (omega arith) (omega arith) (omega arith) (omega arith) (and-true (t .right))
 
 sum-assoc : (r s t : Tally) → sumOf r (sumOf s t) ≡ sumOf (sumOf r s) t
-sum-assoc r s t = same (omega arith) (omega arith) (omega arith) (omega arith)
+sum-assoc r s t = same (omega arith) (omega arith) (omega arith) (omega arith) (sym (and-assoc (r .right) (s .right) (t .right)))
+
+-- ---- every node passes stages 4 to 7
+
+-- by the choice of a stage
+among : (x y z n l d e : Bool) → T (not (n || l || d || e)) → (if x then l else (if y then n else (if z then d else e))) ≡ false
+among x y z true l d e t = absurd t
+among x y z false true d e t = absurd t
+among x y z false false true e t = absurd t
+among x y z false false false true t = absurd t
+among true y z false false false false t = refl
+among false true z false false false false t = refl
+among false false true false false false false t = refl
+among false false false false false false false t = refl
+
+-- then no stage hits
+pub none-hit : (s : ℕ) (vs : List Visit) → T (allPass vs) → hits (failsOf s) vs ≡ []
+unfolding allPass hits
+none-hit s [] t = refl
+none-hit s (v ∷ vs) t = rw (among (eqb s 4) (eqb s 5) (eqb s 6) (notPlain v) (looseBreak v) (deepLoop v) (endlessLoop v) (both-left (passes v) (allPass vs) t)) (none-hit s vs (both-right (passes v) (allPass vs) t))
 
 -- ---- of the walk from a place; k is the kind there, o its own count, w stands around the children
-module _ (b : List ℕ) (i : ℕ) (p : Place b i) (a : Around) {k : ℕ} (q : k ≡ kindAt b i) {o : Tally} (m : o ≡ ownTally k a) where
+module _ (b : List ℕ) (i : ℕ) (p : Place b i) (a : Around) {k : ℕ} (q : k ≡ kindAt b i) {x : Bool} (n : x ≡ passes (visitAt b a i)) {o : Tally} (m : o ≡ ownTally k a x) where
   all : tallyOf (walk a (treeOf b i)) ≡ sumOf o (tallyOf (belowAt (childrenOf k) b (inner k a) i))
   unfolding visitAt
-  all = rw (m, q, walk-at b i p a) (tally-cons (visitAt b a i) (belowAt (childrenOf (kindAt b i)) b (inner (kindAt b i) a) i))
+  all = rw (m, n, q, walk-at b i p a) (tally-cons (visitAt b a i) (belowAt (childrenOf (kindAt b i)) b (inner (kindAt b i) a) i))
 
   pub tally-leaf : childrenOf k ≡ 0 → tallyOf (walk a (treeOf b i)) ≡ o
   tally-leaf h = all ∙ rw h (tally-nil o)
@@ -100,9 +125,9 @@ count-most f (v ∷ vs) = omega (arith, count-cons f v vs, one-most (f v), count
 pub small-by : {n : ℕ} {s t : Tally} → s ≡ t → Small n t → Small n s
 small-by {n} e h = subst (Small n) (sym e) h
 
-pub own-small : (k : ℕ) (a : Around) → Small 1 (ownTally k a)
+pub own-small : (k : ℕ) (a : Around) (x : Bool) → Small 1 (ownTally k a x)
 unfolding ownTally
-own-small k a = record { emits = one-most (eqb k 10); outside = one-most (eqb k 7 && not (a .inEvery)); inside = one-most (eqb k 7 && a .inEvery) }
+own-small k a x = record { emits = one-most (eqb k 10); outside = one-most (eqb k 7 && not (a .inEvery)); inside = one-most (eqb k 7 && a .inEvery) }
 
 pub sum-small : {m n : ℕ} {s t : Tally} → Small m s → Small n t → Small (m + n) (sumOf s t)
 sum-small h l = record { emits = omega (arith, h .emits, l .emits); outside = omega (arith, h .outside, l .outside); inside = omega (arith, h .inside, l .inside) }

@@ -1,5 +1,4 @@
 -- What the functions of the check give.
-pub mod Places
 pub mod Records
 pub mod Walks
 pub mod Counts

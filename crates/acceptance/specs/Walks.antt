@@ -1,5 +1,5 @@
 -- Stages 4 to 7 at one node, and what a walk goes through below a place.
-use mathlib.Core.Bool.{Bool, _&&_, _||_}
+use mathlib.Core.Bool.{Bool, not, _&&_, _||_}
 use mathlib.Core.List.{List, [], _++_}
 use Prim.Native.Nat.{ℕ, zero, suc, _+_}
 use lib.Dec.{eqb}
@@ -7,8 +7,8 @@ use Rattle.rules.specs.Stages.{if_then_else_}
 use Rattle.rules.specs.Table.{kindAt, secondAt}
 use Rattle.rules.specs.Check.{Around, Visit, aLoop, anEvery, aFin, mayEnd, walk, hits, looseBreak, notPlain, deepLoop, endlessLoop}
 use Rattle.table.specs.Places.{treeOf}
-use Rattle.acceptance.specs.Places.{firstOf}
-use Rattle.acceptance.specs.declared.Found.{Found}
+use Rattle.table.specs.Found.{firstOf}
+use Rattle.table.specs.declared.Found.{Found}
 use Rattle.acceptance.specs.declared.walks.Around as Code
 
 -- what stands around a node, as the code has it
@@ -33,6 +33,10 @@ belowAt (suc (suc n)) b a i = walk a (treeOf b (i + 1)) ++ walk a (treeOf b (sec
 -- what fails a stage from 4 to 7
 abbrev pub failsOf : ℕ → Visit → Bool
 failsOf s v = if eqb s 4 then looseBreak v else (if eqb s 5 then notPlain v else (if eqb s 6 then deepLoop v else endlessLoop v))
+
+-- it fails none of them
+abbrev pub passes : Visit → Bool
+passes v = not (notPlain v || looseBreak v || deepLoop v || endlessLoop v)
 
 -- the first place of a walk that fails
 unfoldable pub first : (Visit → Bool) → List Visit → Found

@@ -12,11 +12,7 @@ mod counts;
 mod records;
 mod walks;
 
-// The lowest place that fails a stage.
-enum Found {
-    At(usize),
-    Nothing,
-}
+use table::Found;
 
 // The most that one reaction can do: internal events, highest level, steps, outputs.
 pub struct Announced {
@@ -37,7 +33,7 @@ pub enum Checked {
     Refused(Refusal),
 }
 
-fn refused(number: u32, place: usize) -> Checked
+pub fn refused(number: u32, place: usize) -> Checked
     requires { ⌜ place < 4294967296 ⌝ }
     ensures { λ r. ⌜ verdictOf r ≡ Rules.refused (refusal number place) ⌝ }
 {
@@ -53,6 +49,10 @@ fn check_nodes(table: &[u8]) -> Checked
     requires { ⌜ recordsOf (now table) ≤ mostRecords ⌝ }
     ensures { λ r. ⌜ verdictOf r ≡ nodesVerdict (now (table .entry)) ⌝ }
 {
+    let tally = counts::tally_of_program(table);
+    if tally.right {
+        return Checked::Accepted(counts::announced(table, tally));
+    }
     if let Found::At(place) = walks::first_of_program(table, 4) {
         return refused(4, place);
     }
@@ -65,7 +65,7 @@ fn check_nodes(table: &[u8]) -> Checked
     if let Found::At(place) = walks::first_of_program(table, 7) {
         return refused(7, place);
     }
-    Checked::Accepted(counts::announced(table))
+    Checked::Accepted(counts::announced(table, tally))
 }
 
 pub fn check(table: &[u8]) -> Checked

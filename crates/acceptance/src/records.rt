@@ -6,9 +6,9 @@ ghost use Rattle.rules.specs.Table.{rowAt, recordsOf, spanFits, shapeRight, inR
 ghost use Rattle.rules.specs.Stages.{failing};
 ghost use Rattle.rules.specs.Check.{goodLength};
 ghost use Rattle.acceptance.specs.Records.{rangeOf, nameRange, numberRange, rightAt};
-ghost use Rattle.acceptance.specs.Places.{Inside, firstOf};
-use crate::Found;
+ghost use Rattle.table.specs.Found.{Inside, firstOf};
 use rules::Limits;
+use table::Found;
 
 pub fn good_length(table: &[u8]) -> bool
     ensures { λ r. ⌜ r ≡ goodLength (now (table .entry)) ⌝ }

@@ -5,10 +5,10 @@ ghost use lib.Dec.{eqb, leb};
 ghost use Prim.Native.Nat.{_≤_, _<_};
 ghost use Rattle.rules.specs.Check.{mayBreak, mayEnd, walk, hits, visitsOf, nothingAround};
 ghost use Rattle.table.specs.Places.{Place, treeOf};
-ghost use Rattle.acceptance.specs.Places.{Inside, firstOf};
-ghost use Rattle.acceptance.specs.Walks.{aroundOf, inner, visitAt, failsOf, first};
-use crate::Found;
+ghost use Rattle.table.specs.Found.{Inside, firstOf};
+ghost use Rattle.acceptance.specs.Walks.{aroundOf, inner, visitAt, passes, failsOf, first};
 use rules::Limits;
+use table::Found;
 
 // Whether a break stands at place i or below with no nearer loop.
 pub fn may_break(table: &[u8], i: usize) -> bool
@@ -153,6 +153,30 @@ fn node_fails(table: &[u8], i: usize, stage: u8, around: Around) -> bool
         return false;
     }
     may_end(table, i + 1)
+}
+
+// Whether the construct at place i passes stages 4 to 7.
+pub fn node_right(table: &[u8], i: usize, around: Around) -> bool
+    requires { ⌜ Place (now table) i ⌝ }
+    ensures { λ r. ⌜ r ≡ passes (visitAt (now (table .entry)) (aroundOf around) i) ⌝ }
+{
+    let kind = table::kind_at(table, i);
+    if is_plain(kind) {
+        return true;
+    }
+    if around.confined() {
+        return false;
+    }
+    if kind == 11 {
+        return around.loops != 0;
+    }
+    if kind != 14 {
+        return true;
+    }
+    if Limits::LOOPS <= around.loops {
+        return false;
+    }
+    !may_end(table, i + 1)
 }
 
 // The lowest place from i on, within the construct there, that fails a stage.

@@ -23,9 +23,11 @@ use Rattle.acceptance.specs.declared.Announced.{Announced}
 use Rattle.acceptance.specs.declared.Refusal as Code
 use Rattle.acceptance.specs.declared.Checked.{Checked}
 use Rattle.acceptance.specs.declared.Checked.the-variants.{Accepted, Refused}
-use Rattle.marks.specs.Found.{Inside, firstOf, refusedAt}
-use Rattle.marks.specs.declared.fitting.Found.{Found}
-use Rattle.marks.specs.declared.fitting.Found.the-variants.{At, Nothing}
+use Rattle.table.specs.Found.{firstOf}
+use Rattle.table.proofs.Finding.{found-fails, found-none}
+use Rattle.marks.specs.Fitting.{refusedAt}
+use Rattle.table.specs.declared.Found.{Found}
+use Rattle.table.specs.declared.Found.the-variants.{At, Nothing}
 use Rattle.calls.specs.Stages.{Low, judged, standingStages}
 
 pub verdict-refused : (o : Option Refusal) (a : Rules.Announced) {r : Refusal} → verdict o a ≡ refused r → o ≡ some r
@@ -104,24 +106,22 @@ module _ (b : List ℕ) (k : ℕ) (ss : List Stage) where
 
   pub fails-first : (is : List ℕ) {x : Found} {p : ℕ} → x ≡ firstOf is → x ≡ At p → judged b (stage k is ∷ ss) ≡ refused (refusal k p)
   unfolding judged firstRefusal
-  fails-first [] e d = clash (cc)
-  fails-first (i ∷ is) {x} {p} e d = let q : i ≡ p = cc in rw q
+  fails-first is e d = rw (found-fails is e d k (firstRefusal ss))
 
   pub passes-first : (is : List ℕ) {x : Found} → x ≡ firstOf is → x ≡ Nothing → judged b (stage k is ∷ ss) ≡ judged b ss
   unfolding judged firstRefusal
-  passes-first [] e d = refl
-  passes-first (i ∷ is) e d = clash (cc)
+  passes-first is e d = rw (found-none is e d)
 
 -- ---- stage 8
 
-module _ (b : List ℕ) (xs ys : List Stage) {x : Found} (e : refusedAt x ≡ firstRefusal xs) where
-  pub fails-marks : {p : ℕ} → x ≡ At p → judged b (xs ++ ys) ≡ refused (refusal 8 p)
+module _ (b : List ℕ) (xs : List Stage) {x : Found} (e : refusedAt x ≡ firstRefusal xs) where
+  pub fails-marks : {p : ℕ} → x ≡ At p → judged b xs ≡ refused (refusal 8 p)
   unfolding judged
-  fails-marks h = ap (λ (o : Option Refusal). verdict o (announced b)) (first-some xs ys (sym e ∙ ap refusedAt h))
+  fails-marks h = ap (λ (o : Option Refusal). verdict o (announced b)) (sym e ∙ ap refusedAt h)
 
-  pub passes-marks : x ≡ Nothing → judged b (xs ++ ys) ≡ judged b ys
-  unfolding judged
-  passes-marks h = ap (λ (o : Option Refusal). verdict o (announced b)) (first-none xs ys (sym e ∙ ap refusedAt h))
+  pub passes-marks : x ≡ Nothing → judged b xs ≡ judged b []
+  unfolding judged firstRefusal
+  passes-marks h = ap (λ (o : Option Refusal). verdict o (announced b)) (sym e ∙ ap refusedAt h)
 
 -- ---- the last stage: room for the announced outputs, as the code has them
 
@@ -139,9 +139,6 @@ module _ (b : List ℕ) (xs : List Stage) {x : Checked} (e : verdictOf x ≡ jud
 
 pub standing-first : (b m : List ℕ) (v : List ℤ) (ys : List Stage) → judged b (tableStages b ++ (marksStages b m ++ (varsStage v ∷ ys))) ≡ judged b (standingStages b m v ++ ys)
 standing-first b m v ys = ap (judged b) (sym (append-assoc (tableStages b) (marksStages b m ++ (varsStage v ∷ [])) ys ∙ ap (λ (l : List Stage). tableStages b ++ l) (append-assoc (marksStages b m) (varsStage v ∷ []) ys)))
-
-pub inside-place : (b : List ℕ) {x : Found} {p : ℕ} → x ≡ At p → Inside b x → p < recordsOf b
-inside-place b e h = rw e at h
 
 pub low-place : {x : Found} {p : ℕ} → x ≡ At p → Low x → p < 4294967296
 low-place e h = rw e at h

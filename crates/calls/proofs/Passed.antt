@@ -16,7 +16,7 @@ use Rattle.theory.specs.Stages.{next}
 use Rattle.theory.specs.Walk.{walk-size}
 use Rattle.theory.specs.Accepted.{Accepted, accepted-check, accepts}
 use Rattle.table.specs.Places.{Place, treeOf}
-use Rattle.acceptance.specs.Places.{firstOf}
+use Rattle.table.specs.Found.{firstOf}
 use Rattle.table.proofs.Passed as Table
 use Rattle.acceptance.proofs.Refusals.{few-loops}
 use Rattle.engine.specs.Walks.{Spot, mostRounds}

@@ -7,8 +7,8 @@ use Rattle.rules.specs.Check.{Verdict, verdict, announced, tableStages}
 use Rattle.rules.specs.Marks.{lengthStage, marksStages}
 use Rattle.rules.specs.Calls.{varsStage, eventStage, roomStage}
 use Rattle.rules.specs.Lists.{listFails}
-use Rattle.marks.specs.declared.fitting.Found.{Found}
-use Rattle.marks.specs.declared.fitting.Found.the-variants.{At, Nothing}
+use Rattle.table.specs.declared.Found.{Found}
+use Rattle.table.specs.declared.Found.the-variants.{At, Nothing}
 
 -- refused by the first stage that fails, else accepted with the announced numbers
 unfoldable pub judged : List ℕ → List Stage → Verdict

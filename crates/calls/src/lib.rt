@@ -8,6 +8,7 @@ pub use list::run_list;
 pub use one::react;
 pub use one::start;
 pub use stages::first_bad;
+pub use stages::marks_stages;
 
 // Number and place of the refusal, 0 and 0 for none; finished 1 or 0; the counts.
 #[repr(C)]

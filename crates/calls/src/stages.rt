@@ -1,29 +1,21 @@
 // What a call tests before it runs: stages 1 to 11, and those of a list.
 ghost use mathlib.Core.Path.{_≡_};
+ghost use mathlib.Core.List.{_++_};
 ghost use Prim.Native.Nat.{_<_, _≤_, _/_};
 ghost use lib.Dec.{leb};
 ghost use lib.ListN.{length};
-ghost use Rattle.rules.specs.Stages.{refusal, within};
+ghost use Rattle.rules.specs.Stages.{within};
 ghost use Rattle.rules.specs.Limits.{recordBytes, mostName};
-ghost use Rattle.rules.specs.Check as Rules;
+ghost use Rattle.rules.specs.Check.{tableStages};
+ghost use Rattle.rules.specs.Marks.{marksStages};
 ghost use Rattle.rules.specs.Lists.{eventRight, listFails};
 ghost use Rattle.acceptance.specs.Verdicts.{verdictOf};
-ghost use Rattle.marks.specs.Found.{firstOf};
+ghost use Rattle.table.specs.Found.{firstOf};
 ghost use Rattle.calls.specs.Stages.{judged, startStages, standingStages, reactStages, runStages, Low};
 use acceptance::Checked;
-use acceptance::Refusal;
-use marks::Found;
+use acceptance::refused;
 use rules::Limits;
-
-fn refused(number: u32, place: usize) -> Checked
-    requires { ⌜ place < 4294967296 ⌝ }
-    ensures { λ r. ⌜ verdictOf r ≡ Rules.refused (refusal number place) ⌝ }
-{
-    Checked::Refused(Refusal {
-        number,
-        place: place as u32,
-    })
-}
+use table::Found;
 
 fn has_room(outputs: u32, out: &[u8]) -> bool
     ensures { λ r. ⌜ r ≡ leb outputs (length (now (out .entry)) / recordBytes) ⌝ }
@@ -61,9 +53,9 @@ pub fn start_stages(table: &[u8], marks: &[u8], vars: &[i32], out: &[u8]) -> Che
     }
 }
 
-// Stages 1 to 9 of a reaction or a list.
-fn standing_stages(table: &[u8], marks: &[u8], vars: &[i32]) -> Checked
-    ensures { λ r. ⌜ verdictOf r ≡ judged (now (table .entry)) (standingStages (now (table .entry)) (now (marks .entry)) (now (vars .entry))) ⌝ }
+// Stages 1 to 8.
+pub fn marks_stages(table: &[u8], marks: &[u8]) -> Checked
+    ensures { λ r. ⌜ verdictOf r ≡ judged (now (table .entry)) (tableStages (now (table .entry)) ++ marksStages (now (table .entry)) (now (marks .entry))) ⌝ }
 {
     let checked = acceptance::check(table);
     match checked {
@@ -72,6 +64,19 @@ fn standing_stages(table: &[u8], marks: &[u8], vars: &[i32]) -> Checked
             if let Found::At(place) = marks::marks_refused(table, marks) {
                 return refused(8, place);
             }
+            Checked::Accepted(announced)
+        }
+    }
+}
+
+// Stages 1 to 9 of a reaction or a list.
+fn standing_stages(table: &[u8], marks: &[u8], vars: &[i32]) -> Checked
+    ensures { λ r. ⌜ verdictOf r ≡ judged (now (table .entry)) (standingStages (now (table .entry)) (now (marks .entry)) (now (vars .entry))) ⌝ }
+{
+    let checked = marks_stages(table, marks);
+    match checked {
+        Checked::Refused(refusal) => Checked::Refused(refusal),
+        Checked::Accepted(announced) => {
             if vars.len() != Limits::VARIABLES {
                 return refused(9, 0);
             }

@@ -34,7 +34,7 @@ use Rattle.landarbeso.specs.declared.Written.{Written}
 
 -- ---- a table that its stages let pass
 
-pub passes-sound : (b : List ℕ) → firstRefusal (tableStages b) ≡ none → Sound b
+passes-sound : (b : List ℕ) → firstRefusal (tableStages b) ≡ none → Sound b
 passes-sound b e = let p = passed b (announced b) (accepted-check b e) in record { root = passed-place b p; named = p .ranges; few = p .size .most }
 
 -- ---- what follows on a verdict

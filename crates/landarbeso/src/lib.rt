@@ -11,7 +11,6 @@ ghost use Rattle.landarbeso.specs.Numbers.{numbersOf, queriedOf, Remains
 ghost use Rattle.landarbeso.specs.Counted.{Meant};
 
 mod counted;
-mod stages;
 
 use acceptance::Checked;
 use calls::Answer;
@@ -117,7 +116,7 @@ pub extern "C" fn landarbeso_run_list(
 pub extern "C" fn landarbeso_query(table: &[u8], marks: &[u8]) -> Queried
     ensures { λ r. ⌜ r ≡ queriedOf (queryCall (now (table .entry)) (now (marks .entry))) ⌝ }
 {
-    let checked = stages::marks_stages(table, marks);
+    let checked = calls::marks_stages(table, marks);
     match checked {
         Checked::Refused(refusal) => Queried {
             refused: refusal.number,
@@ -141,7 +140,7 @@ pub extern "C" fn landarbeso_query(table: &[u8], marks: &[u8]) -> Queried
 pub extern "C" fn landarbeso_remaining(table: &[u8], marks: &[u8], out: &mut [u8]) -> Written
     ensures { λ r. ⌜ Remains (remainingCall (now (table .entry)) (now (marks .entry)) (now (out .entry))) r (now (out .exit)) ⌝ }
 {
-    let checked = stages::marks_stages(table, marks);
+    let checked = calls::marks_stages(table, marks);
     match checked {
         Checked::Refused(refusal) => Written {
             refused: refusal.number,

@@ -1,5 +1,4 @@
 -- Laws of marks: stage 8; the awaited events; the remaining program.
-pub mod Failing
 pub mod Seeing
 pub mod Ranges
 pub mod EventSets

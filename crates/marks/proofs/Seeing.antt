@@ -17,10 +17,11 @@ use Rattle.table.specs.Kinds.{childrenOf}
 use Rattle.table.specs.Places.{Place, treeOf, Node, aNop, anAct, anAwait, anEmit, aBreak, anIf, aSeq, aLoop, anEvery, aPar, aFin}
 use Rattle.table.proofs.Places.{down, next}
 use Rattle.table.proofs.Trees.{node-at}
-use Rattle.marks.specs.Found.{firstOf, Inside, refusedAt}
-use Rattle.marks.specs.Fitting.{Spot, seenOf, misfitsHere, orElse as orElseF, joinSeen}
-use Rattle.marks.specs.declared.fitting.Found.{Found}
-use Rattle.marks.specs.declared.fitting.Found.the-variants.{At, Nothing}
+use Rattle.table.proofs.Finding.{first-append}
+use Rattle.table.specs.Found.{firstOf, Inside, orNext}
+use Rattle.marks.specs.Fitting.{Spot, seenOf, misfitsHere, joinSeen, refusedAt}
+use Rattle.table.specs.declared.Found.{Found}
+use Rattle.table.specs.declared.Found.the-variants.{At, Nothing}
 use Rattle.marks.specs.declared.fitting.Seen.{Seen}
 
 -- ---- the places of the children
@@ -57,10 +58,6 @@ self-marked true t = refl
 self-marked false t = refl
 
 -- the lowest of the construct itself, its left and its right
-first-append : (a b : List ℕ) → firstOf (a ++ b) ≡ orElseF (firstOf a) (firstOf b)
-first-append [] b = refl
-first-append (i ∷ is) b = refl
-
 first-here : (i : ℕ) (x : Bool) (l : List ℕ) → firstOf (misfit i x ++ l) ≡ (if x then At i else firstOf l)
 first-here i true l = refl
 first-here i false l = refl
@@ -107,7 +104,7 @@ seen-at b m i p = go (node-at b i p)
 join-inside : (b : List ℕ) (k i : ℕ) (l r : Seen) → i < recordsOf b → Inside b (l .misfit) → Inside b (r .misfit) → Inside b (joinSeen k i l r .misfit)
 join-inside b k i l r h x y = go (misfitsHere k (l .marked) (r .marked)) (l .misfit) x
   where
-    go : (z : Bool) (f : Found) → Inside b f → Inside b (if z then At i else orElseF f (r .misfit))
+    go : (z : Bool) (f : Found) → Inside b f → Inside b (if z then At i else orNext f (r .misfit))
     go true f x = h
     go false (At j) x = x
     go false Nothing x = y
@@ -141,23 +138,23 @@ pub refuses-length : (b m : List ℕ) → (length m ≡ recordsOf b → ⊥) →
 unfolding firstRefusal marksStages
 refuses-length b m h = rw (ne-eqb (length m) (recordsOf b) h)
 
-first-of-two : (a c : List ℕ) → refusedAt (orElseF (firstOf a) (firstOf c)) ≡ orElse a 8 (orElse c 8 none)
+first-of-two : (a c : List ℕ) → refusedAt (orNext (firstOf a) (firstOf c)) ≡ orElse a 8 (orElse c 8 none)
 first-of-two [] [] = refl
 first-of-two [] (j ∷ js) = refl
 first-of-two (i ∷ is) c = refl
 
 module _ (b m : List ℕ) (h : length m ≡ recordsOf b) where
   -- the lowest mark that is wrong, else the lowest construct that does not fit
-  refuses-marks : refusedAt (orElseF (firstOf (failing (markRight b m) 0 (recordsOf b))) (seenOf m (treeOf b 0) .misfit)) ≡ firstRefusal (marksStages b m)
+  refuses-marks : refusedAt (orNext (firstOf (failing (markRight b m) 0 (recordsOf b))) (seenOf m (treeOf b 0) .misfit)) ≡ firstRefusal (marksStages b m)
   unfolding firstRefusal marksStages seenOf treeOf programOf
   refuses-marks = rw (eq-eqb (length m) (recordsOf b) h) (first-of-two (failing (markRight b m) 0 (recordsOf b)) (misfits m (programOf b)))
 
   module _ {f : Found} (e : f ≡ firstOf (failing (markRight b m) 0 (recordsOf b))) where
     pub refuses-mark : Inside b f → {j : ℕ} → f ≡ At j → (some (refusal 8 j) ≡ firstRefusal (marksStages b m)) × (j < recordsOf b)
-    refuses-mark l q = (ap (λ g. refusedAt (orElseF g (seenOf m (treeOf b 0) .misfit))) (sym q ∙ e) ∙ refuses-marks, subst (Inside b) q l)
+    refuses-mark l q = (ap (λ g. refusedAt (orNext g (seenOf m (treeOf b 0) .misfit))) (sym q ∙ e) ∙ refuses-marks, subst (Inside b) q l)
 
     pub refuses-misfit : f ≡ Nothing → {s : Seen} → s ≡ seenOf m (treeOf b 0) → refusedAt (s .misfit) ≡ firstRefusal (marksStages b m)
-    refuses-misfit q u = ap (λ z. refusedAt (z .misfit)) u ∙ (ap (λ g. refusedAt (orElseF g (seenOf m (treeOf b 0) .misfit))) (sym q ∙ e) ∙ refuses-marks)
+    refuses-misfit q u = ap (λ z. refusedAt (z .misfit)) u ∙ (ap (λ g. refusedAt (orNext g (seenOf m (treeOf b 0) .misfit))) (sym q ∙ e) ∙ refuses-marks)
 
 -- what stage 8 lets pass is one mark for each record
 pub sized : (b m : List ℕ) → firstRefusal (marksStages b m) ≡ none → length m ≡ recordsOf b

@@ -2,18 +2,19 @@
 use mathlib.Core.Path.{_≡_}
 use mathlib.Core.Bool.{Bool, false, not, _&&_, _||_}
 use mathlib.Core.List.{List}
+use mathlib.Core.Option.{Option, none, some}
 use Prim.Native.Nat.{ℕ, _<_, _≤_}
 use lib.Dec.{T, eqb}
 use lib.ListN.{length}
-use Rattle.rules.specs.Stages.{if_then_else_, isSome}
+use Rattle.rules.specs.Stages.{if_then_else_, isSome, Refusal, refusal}
 use Rattle.rules.specs.Limits.{mostRecords}
 use Rattle.rules.specs.Tree.{Tree}
 use Rattle.rules.specs.Table.{recordsOf, inKindsTable}
 use Rattle.rules.specs.Marks.{restOf, misfits}
 use Rattle.table.specs.Places.{Place}
-use Rattle.marks.specs.Found.{firstOf}
-use Rattle.marks.specs.declared.fitting.Found.{Found}
-use Rattle.marks.specs.declared.fitting.Found.the-variants.{At, Nothing}
+use Rattle.table.specs.Found.{firstOf, orNext}
+use Rattle.table.specs.declared.Found.{Found}
+use Rattle.table.specs.declared.Found.the-variants.{At, Nothing}
 use Rattle.marks.specs.declared.fitting.Seen.{Seen}
 
 -- a table that passes stages 1 to 3
@@ -35,10 +36,11 @@ seenOf m t = record { marked = isSome (restOf m t); misfit = firstOf (misfits m 
 abbrev pub misfitsHere : ℕ → Bool → Bool → Bool
 misfitsHere k x y = if eqb k 17 then false else (if eqb k 18 then (if x then not y else y) else x && y)
 
-abbrev pub orElse : Found → Found → Found
-orElse (At i) f = At i
-orElse Nothing f = f
-
 -- of two children, from what the marks say of each
 abbrev pub joinSeen : ℕ → ℕ → Seen → Seen → Seen
-joinSeen k i l r = record { marked = l .marked || r .marked; misfit = if misfitsHere k (l .marked) (r .marked) then At i else orElse (l .misfit) (r .misfit) }
+joinSeen k i l r = record { marked = l .marked || r .marked; misfit = if misfitsHere k (l .marked) (r .marked) then At i else orNext (l .misfit) (r .misfit) }
+
+-- the refusal of stage 8 that a place stands for
+abbrev pub refusedAt : Found → Option Refusal
+refusedAt (At i) = some (refusal 8 i)
+refusedAt Nothing = none

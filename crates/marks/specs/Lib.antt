@@ -1,5 +1,4 @@
 -- What the functions over marks give.
-pub mod Found
 pub mod Fitting
 pub mod Awaited
 pub mod Rest

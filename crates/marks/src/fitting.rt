@@ -7,15 +7,10 @@ ghost use Rattle.rules.specs.Stages.{failing, firstRefusal};
 ghost use Rattle.rules.specs.Table.{recordsOf};
 ghost use Rattle.rules.specs.Marks.{mayMark, markRight, marksStages};
 ghost use Rattle.table.specs.Places.{Place, treeOf};
-ghost use Rattle.marks.specs.Found.{firstOf, Inside, refusedAt};
-ghost use Rattle.marks.specs.Fitting.{Spot, misfitsHere, seenOf, joinSeen};
+ghost use Rattle.table.specs.Found.{firstOf, Inside};
+ghost use Rattle.marks.specs.Fitting.{Spot, misfitsHere, seenOf, joinSeen, refusedAt};
 use rules::Limits;
-
-// The lowest place that fails.
-pub enum Found {
-    At(usize),
-    Nothing,
-}
+use table::Found;
 
 // The kinds that wait.
 pub fn may_mark(kind: usize) -> bool

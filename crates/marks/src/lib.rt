@@ -3,7 +3,6 @@ mod fitting;
 mod query;
 mod remaining;
 
-pub use fitting::Found;
 pub use fitting::marks_refused;
 pub use query::Asked;
 pub use query::ask;

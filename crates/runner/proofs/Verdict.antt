@@ -19,9 +19,9 @@ use Rattle.acceptance.specs.declared.Announced.{Announced}
 use Rattle.acceptance.specs.declared.Checked.{Checked}
 use Rattle.acceptance.specs.declared.Checked.the-variants.{Accepted}
 use Rattle.table.proofs.Passed.{sized}
-use Rattle.marks.specs.Found.{firstOf}
-use Rattle.marks.specs.declared.fitting.Found.{Found}
-use Rattle.marks.specs.declared.fitting.Found.the-variants.{At, Nothing}
+use Rattle.table.specs.Found.{firstOf}
+use Rattle.table.specs.declared.Found.{Found}
+use Rattle.table.specs.declared.Found.the-variants.{At, Nothing}
 use Rattle.calls.specs.Stages.{judged}
 use Rattle.calls.proofs.Judging.{all-passed, goes-on, accepts-all, fails-test, passes-test, fails-first, passes-first}
 use Rattle.lines.specs.Printed.{runnerStages}

@@ -5,8 +5,8 @@ ghost use Rattle.calls.specs.Stages.{judged};
 ghost use Rattle.lines.specs.Printed.{runnerStages};
 use acceptance::Checked;
 use acceptance::Refusal;
-use marks::Found;
 use rules::Limits;
+use table::Found;
 
 pub fn verdict(table: &[u8], events: &[u8]) -> Checked
     ensures { λ r. ⌜ verdictOf r ≡ judged (now (table .entry)) (runnerStages (now (table .entry)) (now (events .entry))) ⌝ }

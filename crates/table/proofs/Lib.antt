@@ -3,3 +3,4 @@ pub mod Counting
 pub mod Places
 pub mod Trees
 pub mod Passed
+pub mod Finding

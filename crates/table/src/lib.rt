@@ -7,6 +7,12 @@ ghost use Rattle.table.specs.Places.{bitsAt};
 use memory::signed;
 use rules::Limits;
 
+// The lowest place that fails a test.
+pub enum Found {
+    At(usize),
+    Nothing,
+}
+
 fn wide(x: u8) -> usize
     ensures { λ r. ⌜ (r ≡ x) × (r < 256) ⌝ }
 {

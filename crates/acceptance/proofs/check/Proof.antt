@@ -3,7 +3,7 @@
 use mathlib.Core.Path.{sym, _∙_}
 use native.Mathlib.Omega.{arith}
 use borrow.Author.Needs.{needs}
-use Rattle.acceptance.proofs.Firsts.{found-inside}
+use Rattle.table.proofs.Finding.{found-inside}
 use Rattle.acceptance.proofs.Refusals.{refused-1, refused-2, refused-3, passed-3, good-size, shaped}
 use borrow.Author.Needs.{needs}
 use Rattle.acceptance.proofs.check.Statement.{statement}

@@ -6,9 +6,9 @@ use native.Mathlib.Omega.{arith}
 use borrow.Author.Tests.{not-true, not-false}
 use Rattle.rules.specs.Stages.{failing}
 use Rattle.rules.specs.Table.{recordsOf}
-use Rattle.acceptance.specs.Places.{firstOf}
+use Rattle.table.specs.Found.{firstOf}
 use Rattle.acceptance.specs.Records.{rightAt}
-use Rattle.acceptance.proofs.OneRecord.{all-left, passes-here, fails-here, none-left}
+use Rattle.table.proofs.Finding.{all-left, passes-here, fails-here, none-left}
 use Rattle.acceptance.proofs.records.first_record.Statement.{statement}
 use Rattle.acceptance.proofs.records.first_record.Tie as tie
 

@@ -5,7 +5,8 @@ use native.Mathlib.Omega.{arith}
 use Rattle.rules.specs.Table.{spanAt}
 use Rattle.table.proofs.Places.{down, next, down-place}
 use Rattle.acceptance.specs.Walks.{aroundOf, failsOf}
-use Rattle.acceptance.proofs.Firsts.{first-here, first-leaf, first-one, first-two, loops-below, found-inside}
+use Rattle.acceptance.proofs.Firsts.{first-here, first-leaf, first-one, first-two, loops-below}
+use Rattle.table.proofs.Finding.{found-inside}
 use borrow.Author.Needs.{needs}
 use Prim.Native.Nat.{ℕ, _<_}
 use borrow.Fn.Kinds.{In}

@@ -7,7 +7,7 @@ use lib.ListN.{length}
 use borrow.Author.Tests.{not-true, not-false}
 use Rattle.rules.specs.Stages.{failing}
 use Rattle.rules.specs.Lists.{eventRight}
-use Rattle.marks.specs.Found.{firstOf}
+use Rattle.table.specs.Found.{firstOf}
 use Rattle.calls.proofs.Passing.{all-left, passes-here, fails-here, fails-over, list-too-long, list-wrong, list-broken, list-right}
 use Rattle.calls.proofs.stages.first_bad.Statement.{statement}
 use Rattle.calls.proofs.stages.first_bad.Tie as tie

@@ -18,7 +18,6 @@ use Rattle.calls.proofs.stages.react_stages.Reads as reads
 use Rattle.calls.proofs.stages.react_stages.Lts as lts
 use Rattle.calls.proofs.stages.has_room.Reads as has-room-reads
 use Rattle.calls.proofs.stages.is_event.Reads as is-event-reads
-use Rattle.calls.proofs.stages.refused.Reads as refused-reads
 use Rattle.calls.proofs.stages.standing_stages.Reads as standing-stages-reads
 
 standing-stages-requires : tie.Need-standing-stages-requires

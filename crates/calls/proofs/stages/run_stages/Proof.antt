@@ -17,7 +17,6 @@ use Rattle.calls.proofs.stages.run_stages.Tie as tie
 use Rattle.calls.proofs.stages.run_stages.Reads as reads
 use Rattle.calls.proofs.stages.run_stages.Lts as lts
 use Rattle.calls.proofs.stages.first_bad.Reads as first-bad-reads
-use Rattle.calls.proofs.stages.refused.Reads as refused-reads
 use Rattle.calls.proofs.stages.standing_stages.Reads as standing-stages-reads
 
 standing-stages-requires : tie.Need-standing-stages-requires

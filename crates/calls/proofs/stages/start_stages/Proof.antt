@@ -18,7 +18,6 @@ use Rattle.calls.proofs.stages.start_stages.Reads as reads
 use Rattle.calls.proofs.stages.start_stages.Lts as lts
 use Rattle.acceptance.proofs.check.Reads as check-reads
 use Rattle.calls.proofs.stages.has_room.Reads as has-room-reads
-use Rattle.calls.proofs.stages.refused.Reads as refused-reads
 
 check-requires : tie.Need-check-requires
 check-requires c κs = search needs

@@ -7,8 +7,8 @@ use borrow.Author.Tests.{not-true, not-false}
 use Rattle.rules.specs.Stages.{failing}
 use Rattle.rules.specs.Table.{recordsOf}
 use Rattle.rules.specs.Marks.{markRight}
-use Rattle.marks.specs.Found.{firstOf}
-use Rattle.marks.proofs.Failing.{all-left, passes-here, fails-here, none-left}
+use Rattle.table.specs.Found.{firstOf}
+use Rattle.table.proofs.Finding.{all-left, passes-here, fails-here, none-left}
 use Rattle.marks.proofs.fitting.first_mark.Statement.{statement}
 use Rattle.marks.proofs.fitting.first_mark.Tie as tie
 
