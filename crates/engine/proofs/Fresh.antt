@@ -9,11 +9,11 @@ use lib.ListN.{set}
 use Rattle.rules.specs.Stages.{if_then_else_}
 use Rattle.rules.specs.Tree.{Tree, Act, assign, increase, copy, subtract, compare, divide, output, Source, input, internal, Par, and, or, actKind}
 use Rattle.rules.specs.Table.{kindAt, nameAt, secondAt}
-use Rattle.theory.specs.State.{How, ended, broke, waiting, ringing, Walk, walk, exec, execSeq, execLoop, execPar, thenRight}
+use Rattle.theory.specs.State.{How, ended, broke, waiting, ringing, Walk, walk, Then, exec, execSeq, execLoop, execPar, thenRight}
 use Rattle.table.specs.Places.{Place, treeOf, Node, aNop, anAct, anAwait, anEmit, aBreak, anIf, aSeq, aLoop, anEvery, aPar, aFin}
 use Rattle.table.proofs.Trees.{tree-kind, node-at}
 use Rattle.memory.specs.Arrays.{Arrays, tick, isNonzero}
-use Rattle.engine.specs.Walks.{arrayOps, parKind, parOf, leafRuns}
+use Rattle.engine.specs.Walks.{arrayOps, parKind, parOf, leafRuns, leftEnded}
 use Rattle.engine.proofs.Spots.{tree-par}
 use Rattle.engine.proofs.Clearing.{leaf-acts}
 
@@ -105,3 +105,9 @@ two-ticks a b p q = q ∙ ap tick p
 
 pub three-ticks : (a b c : Arrays) {d : Arrays} → b ≡ tick a → c ≡ tick b → d ≡ tick c → d ≡ tick (tick (tick a))
 three-ticks a b c p q r = r ∙ ap tick (q ∙ ap tick p)
+
+-- ---- an and or or whose left has ended at once
+
+pub exec-par-ended : (c : Bool) (n i : ℕ) (p : Tree) (right : Then Arrays) (l : List ℕ) (m : Arrays) → leftEnded c right l m ≡ execPar arrayOps n i (parOf c) p ended (walk ended l m) right
+exec-par-ended true n i p right l m = refl
+exec-par-ended false n i p right l m = refl

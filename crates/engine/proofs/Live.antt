@@ -4,17 +4,20 @@ use mathlib.Core.Path.{_≡_, refl, ap}
 use mathlib.Core.Bool.{Bool, true, false}
 use mathlib.Core.List.{List}
 use Prim.Native.Nat.{ℕ, _+_}
-use lib.Dec.{eqb}
+use native.Mathlib.Omega.{arith}
+use lib.Dec.{eqb, T, leb}
 use lib.ListN.{getD}
+use borrow.Author.Tests.{eq-eqb}
 use Rattle.rules.specs.Stages.{if_then_else_}
 use Rattle.rules.specs.Tree.{Tree, Source, input, internal, Par, and, or, bySource}
 use Rattle.rules.specs.Table.{kindAt, secondAt}
 use Rattle.theory.specs.State.{How, idle, Walk, walk, exec, execLoop, resume, resumeAwait, resumeFin, resumeEvery, resumeEmit, resumeIf, resumeSeq, resumeLoop, rightAlone, resumeBoth, resumeHeld}
+use Rattle.table.specs.Kinds.{arity, rowOf, childrenOf}
 use Rattle.table.specs.Places.{Place, treeOf, Node, aNop, anAct, anAwait, anEmit, aBreak, anIf, aSeq, aLoop, anEvery, aPar, aFin}
 use Rattle.table.proofs.Trees.{tree-kind, node-at}
 use Rattle.memory.specs.Arrays.{Arrays}
 use Rattle.engine.specs.Walks.{arrayOps, parKind, parOf}
-use Rattle.engine.proofs.Spots.{tree-par}
+use Rattle.engine.proofs.Spots.{children, tree-par}
 
 module _ (b : List ℕ) (i : ℕ) (p : Place b i) (l : List ℕ) (m : Arrays) (n : ℕ) where
   pub resume-await : (s : Source) → kindAt b i ≡ bySource s 8 → resume arrayOps n (treeOf b i) l m ≡ resumeAwait arrayOps i l m
@@ -75,6 +78,29 @@ module _ (b : List ℕ) (i : ℕ) (p : Place b i) (l : List ℕ) (m : Arrays) (n
       go (aPar and e) = absurd (n17 e)
       go (aPar or e) = absurd (n18 e)
       go (aFin e) = absurd (n19 e)
+
+  -- without children, and idle
+  pub resume-idle : childrenOf (kindAt b i) ≡ 0 → getD l i 0 ≡ 0 → resume arrayOps n (treeOf b i) l m ≡ walk idle l m
+  unfolding resume
+  resume-idle z s = go (node-at b i p)
+    where
+      has : (k : ℕ) → kindAt b i ≡ k → T (leb 1 (arity (rowOf k .children))) → ⊥
+      has k e h = omega (arith, children {m = 1} k e h)
+
+      go : {x : Tree} → Node b i x → resume arrayOps n x l m ≡ walk idle l m
+      go (aNop e) = refl
+      go (anAct a e) = refl
+      go (anAwait c e) = rw (eq-eqb _ _ s)
+      go (anEmit e) = rw (eq-eqb _ _ s)
+      go (aBreak e) = refl
+      go (anIf e) = absurd (has 12 e tt)
+      go (aSeq e) = absurd (has 13 e tt)
+      go (aLoop e) = absurd (has 14 e tt)
+      go (anEvery input e) = absurd (has 15 e tt)
+      go (anEvery internal e) = absurd (has 16 e tt)
+      go (aPar and e) = absurd (has 17 e tt)
+      go (aPar or e) = absurd (has 18 e tt)
+      go (aFin e) = absurd (has 19 e tt)
 
 -- ---- what a fate is read of, for an equal run
 

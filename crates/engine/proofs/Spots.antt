@@ -29,6 +29,13 @@ module _ (b : List ℕ) (i : ℕ) {m : ℕ} (p : Spot b i) where
   pub next : {j : ℕ} → spanAt b i * 3 ≤ m → 2 ≤ childrenOf (kindAt b i) → j ≡ secondAt b i → (spanAt b j * 3 + 2 < m) × Spot b j
   next e h q = rw q (omega (arith, next-falls b i (p .place) h), spot-next b i p h refl)
 
+  -- the same of a call that is ranked above the walk of the child
+  pub down-above : spanAt b i * 3 < m → 1 ≤ childrenOf (kindAt b i) → (spanAt b (i + 1) * 3 + 3 < m) × Spot b (i + 1)
+  down-above e h = (omega (arith, down-falls b i (p .place) h), spot-down b i p h)
+
+  pub next-above : {j : ℕ} → spanAt b i * 3 < m → 2 ≤ childrenOf (kindAt b i) → j ≡ secondAt b i → (spanAt b j * 3 + 3 < m) × Spot b j
+  next-above e h q = rw q (omega (arith, next-falls b i (p .place) h), spot-next b i p h refl)
+
 -- ---- kinds with children
 
 -- a kind that is known has as many children as the kinds table says: at a numeral k the last argument is `tt`
@@ -43,6 +50,12 @@ par-children false e = children 18 e tt
 pub either-children : {k : ℕ} → EitherKind k → 2 ≤ childrenOf k
 either-children (inl e) = children 12 e tt
 either-children (inr e) = children 13 e tt
+
+pub no-two : (k : ℕ) → childrenOf k ≡ 0 → childrenOf k ≡ 2 → ⊥
+no-two k z e = omega arith
+
+pub no-loop : (k : ℕ) → childrenOf k ≡ 0 → k ≡ 14 → ⊥
+no-loop k z e = omega (arith, children {m = 1} 14 e tt)
 
 pub tree-par : (b : List ℕ) (i : ℕ) → Place b i → (c : Bool) → kindAt b i ≡ parKind c → treeOf b i ≡ par i (parOf c) (treeOf b (i + 1)) (treeOf b (secondAt b i))
 tree-par b i p true e = tree-kind b i p 17 e

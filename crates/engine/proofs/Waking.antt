@@ -6,6 +6,7 @@ use mathlib.Core.List.{List}
 use Prim.Native.Nat.{ℕ, _+_, _<_}
 use lib.Dec.{eqb}
 use lib.ListN.{getD}
+use borrow.Author.Tests.{ne-eqb}
 use Rattle.rules.specs.Stages.{if_then_else_}
 use Rattle.rules.specs.Table.{kindAt, nameAt, numberAt, secondAt}
 use Rattle.rules.specs.Step.{wakes}
@@ -15,6 +16,7 @@ use Rattle.table.specs.Places.{Place, treeOf}
 use Rattle.table.proofs.Counting.{each}
 use Rattle.table.proofs.Places.{kind-most}
 use Rattle.table.proofs.Trees.{tree-at}
+use Rattle.engine.proofs.Spots.{no-two, no-loop}
 use Rattle.engine.specs.Walks.{eventFrom, waits, hears}
 
 module _ (b : List ℕ) (i : ℕ) (p : Place b i) (l : List ℕ) where
@@ -67,3 +69,10 @@ module _ (b : List ℕ) (i : ℕ) (p : Place b i) (l : List ℕ) where
 
         go : (k : ℕ) → k < 20 → Goal k
         go = each Goal 20 (rw h, (rw h, (rw h, (rw h, (rw h, (rw h, (rw h, (rw h, (rw h, (rw h, (rw h, (rw h, (rw h, (rw h, (rw h, (rw h, (rw h, (rw h, (rw h, (rw h, tt))))))))))))))))))))
+
+    pub still-leaf : childrenOf (kindAt b i) ≡ 0 → still n (treeOf b i) l ≡ stillAt n (getD l i 0)
+    still-leaf z = go (stillAt n (getD l i 0)) refl
+      where
+        go : (s : Bool) → stillAt n (getD l i 0) ≡ s → still n (treeOf b i) l ≡ s
+        go true e = rw (still-record e, ne-eqb _ _ (no-two _ z), ne-eqb _ _ (no-loop _ z))
+        go false e = still-not e

@@ -11,7 +11,7 @@ use Rattle.rules.specs.Limits.{mostRecords}
 use Rattle.rules.specs.Tree.{Source, input, internal, Par, and, or, bySource, byPar}
 use Rattle.rules.specs.Table.{nameAt, numberAt, recordsOf}
 use Rattle.rules.specs.Step.{Event}
-use Rattle.theory.specs.State.{Ops, How, idle, ended, broke, waiting, ringing, Walk, walk, execLoop, rightAlone, resumeEmit}
+use Rattle.theory.specs.State.{Ops, How, idle, ended, broke, waiting, ringing, Walk, walk, Then, Swept, tickIf, execLoop, rightAlone, resumeEmit}
 use Rattle.theory.specs.Round.{Round, round, inputEvent, internalEvent}
 use Rattle.table.specs.Places.{Place}
 use Rattle.memory.specs.Arrays.{Arrays, arrays, tick, acts, kindActs, isNonzero}
@@ -72,6 +72,17 @@ hears k v b e = waits k b && eqb e v
 unfoldable pub leafRuns : List ℕ → ℕ → ℕ → Arrays → Arrays
 unfolding tick kindActs
 leafRuns b i k m = if eqb k 0 then m else (if ltb k 8 then tick (kindActs k (nameAt b i) (numberAt b i) m) else m)
+
+-- ---- parts of an and or or
+
+-- a fresh one whose left has ended at once; `right` begins its right
+abbrev pub leftEnded : Bool → Then Arrays → Then Arrays
+leftEnded true right l m = right l (tick (tick (tick m)))
+leftEnded false right l m = walk ended l (tick m)
+
+-- one whose left has broken, and whose right is cleared
+abbrev pub leftBroke : Swept Arrays → Walk Arrays
+leftBroke s = walk broke (s .states) (tickIf arrayOps (s .lived) (tickIf arrayOps (s .lived) (s .memory)))
 
 -- ---- what a call promises that is lent some of the arrays only: with any others
 

@@ -11,11 +11,12 @@ ghost use Rattle.memory.specs.Arrays.{arrays};
 ghost use Rattle.engine.specs.Walks.{Spot, arrayOps, EitherKind, parKind};
 use crate::settle::settle;
 use memory::tick;
+use rules::Limits;
 use table::kind_at;
 use table::second_at;
 
 // The state at place i is idle from now on: was it not before?
-fn clear_one(i: usize, st: &mut [u32; 256]) -> bool
+fn clear_one(i: usize, st: &mut [u32; Limits::RECORDS]) -> bool
     requires { ⌜ i < 256 ⌝ }
     ensures { λ r. ⌜ (r ≡ not (eqb (getD (now (st .entry)) i 0) 0)) × (now (st .exit) ≡ set (now (st .entry)) i 0) ⌝ }
 {
@@ -28,8 +29,8 @@ fn clear_one(i: usize, st: &mut [u32; 256]) -> bool
 pub fn clear(
     table: &[u8],
     i: usize,
-    st: &mut [u32; 256],
-    vars: &mut [i32; 64],
+    st: &mut [u32; Limits::RECORDS],
+    vars: &mut [i32; Limits::VARIABLES],
     out: &mut [u8],
     counts: &mut [u64; 2],
 ) -> bool
@@ -59,8 +60,8 @@ pub fn clear(
 fn clear_either(
     table: &[u8],
     i: usize,
-    st: &mut [u32; 256],
-    vars: &mut [i32; 64],
+    st: &mut [u32; Limits::RECORDS],
+    vars: &mut [i32; Limits::VARIABLES],
     out: &mut [u8],
     counts: &mut [u64; 2],
 ) -> bool
@@ -80,8 +81,8 @@ fn clear_par(
     table: &[u8],
     i: usize,
     and: bool,
-    st: &mut [u32; 256],
-    vars: &mut [i32; 64],
+    st: &mut [u32; Limits::RECORDS],
+    vars: &mut [i32; Limits::VARIABLES],
     out: &mut [u8],
     counts: &mut [u64; 2],
 ) -> bool

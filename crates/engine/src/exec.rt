@@ -5,12 +5,13 @@ ghost use Rattle.rules.specs.Table.{kindAt};
 ghost use Rattle.theory.specs.State.{walk, exec, thenRight};
 ghost use Rattle.table.specs.Places.{treeOf};
 ghost use Rattle.memory.specs.Arrays.{arrays};
-ghost use Rattle.engine.specs.Walks.{Spot, arrayOps, howOf, parKind, parOf, AfterBody};
+ghost use Rattle.engine.specs.Walks.{Spot, arrayOps, howOf, parKind, parOf, leftEnded, AfterBody};
 use crate::How;
 use crate::clear::clear;
 use crate::settle::run_leaf;
 use memory::is_nonzero;
 use memory::tick;
+use rules::Limits;
 use table::kind_at;
 use table::name_at;
 use table::second_at;
@@ -37,8 +38,8 @@ pub fn after_right(
     i: usize,
     and: bool,
     how: How,
-    st: &mut [u32; 256],
-    vars: &mut [i32; 64],
+    st: &mut [u32; Limits::RECORDS],
+    vars: &mut [i32; Limits::VARIABLES],
     out: &mut [u8],
     counts: &mut [u64; 2],
 ) -> How
@@ -71,8 +72,8 @@ pub fn exec(
     table: &[u8],
     i: usize,
     n: u32,
-    st: &mut [u32; 256],
-    vars: &mut [i32; 64],
+    st: &mut [u32; Limits::RECORDS],
+    vars: &mut [i32; Limits::VARIABLES],
     out: &mut [u8],
     counts: &mut [u64; 2],
 ) -> How
@@ -112,8 +113,8 @@ fn exec_if(
     table: &[u8],
     i: usize,
     n: u32,
-    st: &mut [u32; 256],
-    vars: &mut [i32; 64],
+    st: &mut [u32; Limits::RECORDS],
+    vars: &mut [i32; Limits::VARIABLES],
     out: &mut [u8],
     counts: &mut [u64; 2],
 ) -> How
@@ -135,8 +136,8 @@ fn exec_seq(
     table: &[u8],
     i: usize,
     n: u32,
-    st: &mut [u32; 256],
-    vars: &mut [i32; 64],
+    st: &mut [u32; Limits::RECORDS],
+    vars: &mut [i32; Limits::VARIABLES],
     out: &mut [u8],
     counts: &mut [u64; 2],
 ) -> How
@@ -167,8 +168,8 @@ fn exec_par(
     i: usize,
     and: bool,
     n: u32,
-    st: &mut [u32; 256],
-    vars: &mut [i32; 64],
+    st: &mut [u32; Limits::RECORDS],
+    vars: &mut [i32; Limits::VARIABLES],
     out: &mut [u8],
     counts: &mut [u64; 2],
 ) -> How
@@ -176,20 +177,13 @@ fn exec_par(
     requires { ⌜ kindAt (now table) i ≡ parKind and ⌝ }
     ensures { λ r. ⌜ walk (howOf r) (now (st .exit)) (arrays (now (vars .exit)) (now (out .exit)) (now (counts .exit))) ≡ exec arrayOps n (treeOf (now (table .entry)) i) (now (st .entry)) (arrays (now (vars .entry)) (now (out .entry)) (now (counts .entry))) ⌝ }
 {
+    let first = i + 1;
+    let second = second_at(table, i);
     tick(counts);
-    let how = exec(table, i + 1, n, st, vars, out, counts);
-    match how {
+    let left = exec(table, first, n, st, vars, out, counts);
+    match left {
         How::Idle => How::Idle,
-        How::Ended => {
-            tick(counts);
-            if and {
-                tick(counts);
-                tick(counts);
-                let j = second_at(table, i);
-                return exec(table, j, n, st, vars, out, counts);
-            }
-            How::Ended
-        }
+        How::Ended => left_ended(table, second, and, n, st, vars, out, counts),
         How::Broke => {
             tick(counts);
             tick(counts);
@@ -198,8 +192,7 @@ fn exec_par(
         How::Waiting => {
             tick(counts);
             tick(counts);
-            let j = second_at(table, i);
-            let right = exec(table, j, n, st, vars, out, counts);
+            let right = exec(table, second, n, st, vars, out, counts);
             after_right(table, i, and, right, st, vars, out, counts)
         }
         How::Ringing(event) => {
@@ -207,4 +200,27 @@ fn exec_par(
             How::Ringing(event)
         }
     }
+}
+
+// After a left that has ended at once: an or ends with it; of an and the right, at place j, starts.
+fn left_ended(
+    table: &[u8],
+    j: usize,
+    and: bool,
+    n: u32,
+    st: &mut [u32; Limits::RECORDS],
+    vars: &mut [i32; Limits::VARIABLES],
+    out: &mut [u8],
+    counts: &mut [u64; 2],
+) -> How
+    requires { ⌜ Spot (now table) j ⌝ }
+    ensures { λ r. ⌜ walk (howOf r) (now (st .exit)) (arrays (now (vars .exit)) (now (out .exit)) (now (counts .exit))) ≡ leftEnded and (exec arrayOps n (treeOf (now (table .entry)) j)) (now (st .entry)) (arrays (now (vars .entry)) (now (out .entry)) (now (counts .entry))) ⌝ }
+{
+    tick(counts);
+    if and {
+        tick(counts);
+        tick(counts);
+        return exec(table, j, n, st, vars, out, counts);
+    }
+    How::Ended
 }

@@ -2,11 +2,11 @@
 ghost use mathlib.Core.Path.{_≡_};
 ghost use Prim.Native.Nat.{_+_, _<_, _≤_};
 ghost use Rattle.rules.specs.Table.{kindAt, secondAt};
-ghost use Rattle.theory.specs.State.{walk, exec, resume, resumeAwait, resumeFin, resumeEvery, takeTurn, resumeBoth, resumeHeld};
+ghost use Rattle.theory.specs.State.{walk, sweep, exec, resume, resumeAwait, resumeFin, resumeEvery, takeTurn, resumeBoth, resumeHeld};
 ghost use Rattle.table.specs.Kinds.{childrenOf};
 ghost use Rattle.table.specs.Places.{treeOf};
 ghost use Rattle.memory.specs.Arrays.{arrays};
-ghost use Rattle.engine.specs.Walks.{Spot, arrayOps, howOf, parKind, parOf, Rests, Emits, RightAlone};
+ghost use Rattle.engine.specs.Walks.{Spot, arrayOps, howOf, parKind, parOf, leftBroke, Rests, Emits, RightAlone};
 use crate::How;
 use crate::clear::clear;
 use crate::exec::after_body;
@@ -14,10 +14,12 @@ use crate::exec::after_right;
 use crate::exec::exec;
 use crate::settle::settle;
 use memory::tick;
+use rules::Limits;
+use table::children_at;
 use table::kind_at;
 use table::second_at;
 
-fn resume_await(i: usize, st: &mut [u32; 256]) -> How
+fn resume_await(i: usize, st: &mut [u32; Limits::RECORDS]) -> How
     requires { ⌜ i < 256 ⌝ }
     ensures { λ r. ⌜ Rests (resumeAwait arrayOps i (now (st .entry))) r (now (st .exit)) ⌝ }
 {
@@ -31,7 +33,7 @@ fn resume_await(i: usize, st: &mut [u32; 256]) -> How
     How::Ended
 }
 
-fn resume_fin(i: usize, st: &mut [u32; 256]) -> How
+fn resume_fin(i: usize, st: &mut [u32; Limits::RECORDS]) -> How
     requires { ⌜ i < 256 ⌝ }
     ensures { λ r. ⌜ Rests (resumeFin arrayOps i (now (st .entry))) r (now (st .exit)) ⌝ }
 {
@@ -41,7 +43,7 @@ fn resume_fin(i: usize, st: &mut [u32; 256]) -> How
     How::Waiting
 }
 
-fn resume_emit(i: usize, n: u32, st: &mut [u32; 256], counts: &mut [u64; 2]) -> How
+fn resume_emit(i: usize, n: u32, st: &mut [u32; Limits::RECORDS], counts: &mut [u64; 2]) -> How
     requires { ⌜ i < 256 ⌝ }
     ensures { λ r. ⌜ Emits n i (now (st .entry)) (now (counts .entry)) r (now (st .exit)) (now (counts .exit)) ⌝ }
 {
@@ -60,8 +62,8 @@ fn resume_emit(i: usize, n: u32, st: &mut [u32; 256], counts: &mut [u64; 2]) -> 
 fn resume_every(
     table: &[u8],
     i: usize,
-    st: &mut [u32; 256],
-    vars: &mut [i32; 64],
+    st: &mut [u32; Limits::RECORDS],
+    vars: &mut [i32; Limits::VARIABLES],
     out: &mut [u8],
     counts: &mut [u64; 2],
 ) -> How
@@ -106,13 +108,33 @@ fn right_alone(how: How, counts: &mut [u64; 2]) -> How
     }
 }
 
+// After a left that has broken: the right, at place j, is cleared.
+fn left_broke(
+    table: &[u8],
+    j: usize,
+    st: &mut [u32; Limits::RECORDS],
+    vars: &mut [i32; Limits::VARIABLES],
+    out: &mut [u8],
+    counts: &mut [u64; 2],
+) -> How
+    requires { ⌜ Spot (now table) j ⌝ }
+    ensures { λ r. ⌜ walk (howOf r) (now (st .exit)) (arrays (now (vars .exit)) (now (out .exit)) (now (counts .exit))) ≡ leftBroke (sweep arrayOps (treeOf (now (table .entry)) j) (now (st .entry)) (arrays (now (vars .entry)) (now (out .entry)) (now (counts .entry)))) ⌝ }
+{
+    if clear(table, j, st, vars, out, counts) {
+        tick(counts);
+        tick(counts);
+        return How::Broke;
+    }
+    How::Broke
+}
+
 // The right of an and or or that waits for its turn.
 fn take_turn(
     table: &[u8],
     i: usize,
     n: u32,
-    st: &mut [u32; 256],
-    vars: &mut [i32; 64],
+    st: &mut [u32; Limits::RECORDS],
+    vars: &mut [i32; Limits::VARIABLES],
     out: &mut [u8],
     counts: &mut [u64; 2],
 ) -> How
@@ -137,8 +159,8 @@ fn resume_held(
     and: bool,
     how: How,
     n: u32,
-    st: &mut [u32; 256],
-    vars: &mut [i32; 64],
+    st: &mut [u32; Limits::RECORDS],
+    vars: &mut [i32; Limits::VARIABLES],
     out: &mut [u8],
     counts: &mut [u64; 2],
 ) -> How
@@ -174,8 +196,8 @@ pub fn resume(
     table: &[u8],
     i: usize,
     n: u32,
-    st: &mut [u32; 256],
-    vars: &mut [i32; 64],
+    st: &mut [u32; Limits::RECORDS],
+    vars: &mut [i32; Limits::VARIABLES],
     out: &mut [u8],
     counts: &mut [u64; 2],
 ) -> How
@@ -199,12 +221,33 @@ pub fn resume(
     }
 }
 
+// A part of an if or a sequence: an idle one without children takes no walk.
+fn resume_part(
+    table: &[u8],
+    i: usize,
+    n: u32,
+    st: &mut [u32; Limits::RECORDS],
+    vars: &mut [i32; Limits::VARIABLES],
+    out: &mut [u8],
+    counts: &mut [u64; 2],
+) -> How
+    requires { ⌜ Spot (now table) i ⌝ }
+    ensures { λ r. ⌜ walk (howOf r) (now (st .exit)) (arrays (now (vars .exit)) (now (out .exit)) (now (counts .exit))) ≡ resume arrayOps n (treeOf (now (table .entry)) i) (now (st .entry)) (arrays (now (vars .entry)) (now (out .entry)) (now (counts .entry))) ⌝ }
+{
+    if children_at(table, i) == 0 {
+        if st[i] == 0 {
+            return How::Idle;
+        }
+    }
+    resume(table, i, n, st, vars, out, counts)
+}
+
 fn resume_if(
     table: &[u8],
     i: usize,
     n: u32,
-    st: &mut [u32; 256],
-    vars: &mut [i32; 64],
+    st: &mut [u32; Limits::RECORDS],
+    vars: &mut [i32; Limits::VARIABLES],
     out: &mut [u8],
     counts: &mut [u64; 2],
 ) -> How
@@ -212,11 +255,11 @@ fn resume_if(
     requires { ⌜ kindAt (now table) i ≡ 12 ⌝ }
     ensures { λ r. ⌜ walk (howOf r) (now (st .exit)) (arrays (now (vars .exit)) (now (out .exit)) (now (counts .exit))) ≡ resume arrayOps n (treeOf (now (table .entry)) i) (now (st .entry)) (arrays (now (vars .entry)) (now (out .entry)) (now (counts .entry))) ⌝ }
 {
-    let how = resume(table, i + 1, n, st, vars, out, counts);
+    let how = resume_part(table, i + 1, n, st, vars, out, counts);
     match how {
         How::Idle => {
             let j = second_at(table, i);
-            resume(table, j, n, st, vars, out, counts)
+            resume_part(table, j, n, st, vars, out, counts)
         }
         How::Ended => How::Ended,
         How::Broke => How::Broke,
@@ -229,8 +272,8 @@ fn resume_seq(
     table: &[u8],
     i: usize,
     n: u32,
-    st: &mut [u32; 256],
-    vars: &mut [i32; 64],
+    st: &mut [u32; Limits::RECORDS],
+    vars: &mut [i32; Limits::VARIABLES],
     out: &mut [u8],
     counts: &mut [u64; 2],
 ) -> How
@@ -238,11 +281,11 @@ fn resume_seq(
     requires { ⌜ kindAt (now table) i ≡ 13 ⌝ }
     ensures { λ r. ⌜ walk (howOf r) (now (st .exit)) (arrays (now (vars .exit)) (now (out .exit)) (now (counts .exit))) ≡ resume arrayOps n (treeOf (now (table .entry)) i) (now (st .entry)) (arrays (now (vars .entry)) (now (out .entry)) (now (counts .entry))) ⌝ }
 {
-    let how = resume(table, i + 1, n, st, vars, out, counts);
+    let how = resume_part(table, i + 1, n, st, vars, out, counts);
     match how {
         How::Idle => {
             let j = second_at(table, i);
-            resume(table, j, n, st, vars, out, counts)
+            resume_part(table, j, n, st, vars, out, counts)
         }
         How::Ended => {
             tick(counts);
@@ -263,8 +306,8 @@ fn resume_loop(
     table: &[u8],
     i: usize,
     n: u32,
-    st: &mut [u32; 256],
-    vars: &mut [i32; 64],
+    st: &mut [u32; Limits::RECORDS],
+    vars: &mut [i32; Limits::VARIABLES],
     out: &mut [u8],
     counts: &mut [u64; 2],
 ) -> How
@@ -295,8 +338,8 @@ fn resume_par(
     i: usize,
     and: bool,
     n: u32,
-    st: &mut [u32; 256],
-    vars: &mut [i32; 64],
+    st: &mut [u32; Limits::RECORDS],
+    vars: &mut [i32; Limits::VARIABLES],
     out: &mut [u8],
     counts: &mut [u64; 2],
 ) -> How
@@ -319,8 +362,8 @@ fn resume_both(
     and: bool,
     how: How,
     n: u32,
-    st: &mut [u32; 256],
-    vars: &mut [i32; 64],
+    st: &mut [u32; Limits::RECORDS],
+    vars: &mut [i32; Limits::VARIABLES],
     out: &mut [u8],
     counts: &mut [u64; 2],
 ) -> How
@@ -342,14 +385,7 @@ fn resume_both(
             }
             How::Ended
         }
-        How::Broke => {
-            if clear(table, j, st, vars, out, counts) {
-                tick(counts);
-                tick(counts);
-                return How::Broke;
-            }
-            How::Broke
-        }
+        How::Broke => left_broke(table, j, st, vars, out, counts),
         How::Waiting => {
             let right = resume(table, j, n, st, vars, out, counts);
             after_right(table, i, and, right, st, vars, out, counts)

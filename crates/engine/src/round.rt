@@ -12,6 +12,7 @@ use crate::resume::resume;
 use crate::wake::awake;
 use crate::wake::blocked;
 use memory::tick;
+use rules::Limits;
 
 // The event that is pending, 0 for none.
 fn event_of(how: How) -> usize
@@ -32,12 +33,23 @@ fn larger(a: u32, b: u32) -> u32
     if a < b { b } else { a }
 }
 
+// What a round left, beside the arrays.
+fn rounded(grounded: bool, emitted: u64, highest: u32) -> Rounded
+    ensures { λ r. ⌜ (r .grounded ≡ grounded) × (r .emitted ≡ emitted) × (r .highest ≡ highest) ⌝ }
+{
+    Rounded {
+        grounded: grounded,
+        emitted: emitted,
+        highest: highest,
+    }
+}
+
 // The whole program runs on at a level; where it is blocked, nothing is left to do.
 fn onward(
     table: &[u8],
     level: u32,
-    st: &mut [u32; 256],
-    vars: &mut [i32; 64],
+    st: &mut [u32; Limits::RECORDS],
+    vars: &mut [i32; Limits::VARIABLES],
     out: &mut [u8],
     counts: &mut [u64; 2],
 ) -> usize
@@ -59,8 +71,8 @@ fn pushed(
     input: bool,
     event: usize,
     level: u32,
-    st: &mut [u32; 256],
-    vars: &mut [i32; 64],
+    st: &mut [u32; Limits::RECORDS],
+    vars: &mut [i32; Limits::VARIABLES],
     out: &mut [u8],
     counts: &mut [u64; 2],
 ) -> usize
@@ -77,8 +89,8 @@ fn rounds(
     table: &[u8],
     most: u32,
     first: usize,
-    st: &mut [u32; 256],
-    vars: &mut [i32; 64],
+    st: &mut [u32; Limits::RECORDS],
+    vars: &mut [i32; Limits::VARIABLES],
     out: &mut [u8],
     counts: &mut [u64; 2],
 ) -> Rounded
@@ -96,11 +108,7 @@ fn rounds(
         left -= 1;
         if event == 0 {
             if level == 1 {
-                return Rounded {
-                    grounded: true,
-                    emitted: emitted,
-                    highest: highest,
-                };
+                return rounded(true, emitted, highest);
             }
             level -= 1;
             event = onward(table, level, st, vars, out, counts);
@@ -111,11 +119,7 @@ fn rounds(
         highest = larger(highest, level);
         event = pushed(table, false, event, level, st, vars, out, counts);
     }
-    Rounded {
-        grounded: false,
-        emitted: emitted,
-        highest: highest,
-    }
+    rounded(false, emitted, highest)
 }
 
 // A reaction to an input event: pushed to level 1.
@@ -123,8 +127,8 @@ pub fn react(
     table: &[u8],
     event: usize,
     most: u32,
-    st: &mut [u32; 256],
-    vars: &mut [i32; 64],
+    st: &mut [u32; Limits::RECORDS],
+    vars: &mut [i32; Limits::VARIABLES],
     out: &mut [u8],
     counts: &mut [u64; 2],
 ) -> Rounded
@@ -141,8 +145,8 @@ pub fn react(
 pub fn begin(
     table: &[u8],
     most: u32,
-    st: &mut [u32; 256],
-    vars: &mut [i32; 64],
+    st: &mut [u32; Limits::RECORDS],
+    vars: &mut [i32; Limits::VARIABLES],
     out: &mut [u8],
     counts: &mut [u64; 2],
 ) -> Rounded

@@ -9,6 +9,7 @@ ghost use Rattle.engine.specs.Walks.{Spot, arrayOps, leafRuns};
 use memory::act;
 use memory::is_nonzero;
 use memory::tick;
+use rules::Limits;
 use table::kind_at;
 use table::name_at;
 use table::number_at;
@@ -19,7 +20,7 @@ pub fn run_leaf(
     table: &[u8],
     i: usize,
     kind: usize,
-    vars: &mut [i32; 64],
+    vars: &mut [i32; Limits::VARIABLES],
     out: &mut [u8],
     counts: &mut [u64; 2],
 )
@@ -38,7 +39,13 @@ pub fn run_leaf(
 }
 
 // A tree of kinds 0 to 7, 12 and 13 runs to its end.
-pub fn settle(table: &[u8], i: usize, vars: &mut [i32; 64], out: &mut [u8], counts: &mut [u64; 2])
+pub fn settle(
+    table: &[u8],
+    i: usize,
+    vars: &mut [i32; Limits::VARIABLES],
+    out: &mut [u8],
+    counts: &mut [u64; 2],
+)
     requires { ⌜ Spot (now table) i ⌝ }
     ensures { λ _. ⌜ arrays (now (vars .exit)) (now (out .exit)) (now (counts .exit)) ≡ settle arrayOps (treeOf (now (table .entry)) i) (arrays (now (vars .entry)) (now (out .entry)) (now (counts .entry))) ⌝ }
 {

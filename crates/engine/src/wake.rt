@@ -1,10 +1,12 @@
 // A push wakes what waits for its event; a level is done where nothing is left to run.
 ghost use mathlib.Core.Path.{_≡_};
 ghost use Prim.Native.Nat.{_<_};
+ghost use Rattle.rules.specs.Table.{kindAt, nameAt};
 ghost use Rattle.rules.specs.Step.{wakes};
-ghost use Rattle.theory.specs.State.{wakeAt, awake, still};
+ghost use Rattle.theory.specs.State.{wakeAt, awake, stillAt, still};
 ghost use Rattle.table.specs.Places.{treeOf};
 ghost use Rattle.engine.specs.Walks.{Spot, eventFrom, waits, hears};
+use rules::Limits;
 use table::children_at;
 use table::kind_at;
 use table::name_at;
@@ -30,7 +32,7 @@ fn hears(kind: usize, name: usize, input: bool, event: usize) -> bool
     false
 }
 
-fn wake_one(heard: bool, i: usize, st: &mut [u32; 256])
+fn wake_one(heard: bool, i: usize, st: &mut [u32; Limits::RECORDS])
     requires { ⌜ i < 256 ⌝ }
     ensures { λ _. ⌜ now (st .exit) ≡ wakeAt heard i (now (st .entry)) ⌝ }
 {
@@ -41,47 +43,84 @@ fn wake_one(heard: bool, i: usize, st: &mut [u32; 256])
     }
 }
 
-// What waits for the event at place i and below is woken.
-pub fn awake(table: &[u8], i: usize, input: bool, event: usize, st: &mut [u32; 256])
+// The record at place i alone.
+fn awake_one(table: &[u8], i: usize, input: bool, event: usize, st: &mut [u32; Limits::RECORDS])
     requires { ⌜ Spot (now table) i ⌝ }
-    ensures { λ _. ⌜ now (st .exit) ≡ awake (wakes (eventFrom input event)) (treeOf (now (table .entry)) i) (now (st .entry)) ⌝ }
+    ensures { λ _. ⌜ now (st .exit) ≡ wakeAt (hears (kindAt (now (table .entry)) i) (nameAt (now (table .entry)) i) input event) i (now (st .entry)) ⌝ }
 {
-    if children_at(table, i) == 2 {
-        awake(table, i + 1, input, event, st);
-        let j = second_at(table, i);
-        awake(table, j, input, event, st);
-        return;
-    }
     let kind = kind_at(table, i);
-    if kind == 14 {
-        awake(table, i + 1, input, event, st);
-        return;
-    }
     let name = name_at(table, i);
     wake_one(hears(kind, name, input, event), i, st);
 }
 
-// Blocked, or nothing lives: no state at place i and below is woken, or n, a turn at this level.
-pub fn blocked(table: &[u8], i: usize, n: u32, st: &[u32; 256]) -> bool
+// What waits for the event at place i and below is woken.
+pub fn awake(table: &[u8], i: usize, input: bool, event: usize, st: &mut [u32; Limits::RECORDS])
     requires { ⌜ Spot (now table) i ⌝ }
-    ensures { λ r. ⌜ r ≡ still n (treeOf (now (table .entry)) i) (now (st .entry)) ⌝ }
+    ensures { λ _. ⌜ now (st .exit) ≡ awake (wakes (eventFrom input event)) (treeOf (now (table .entry)) i) (now (st .entry)) ⌝ }
 {
-    let state = st[i];
+    if children_at(table, i) == 2 {
+        awake_part(table, i + 1, input, event, st);
+        let j = second_at(table, i);
+        awake_part(table, j, input, event, st);
+        return;
+    }
+    if kind_at(table, i) == 14 {
+        awake_part(table, i + 1, input, event, st);
+        return;
+    }
+    awake_one(table, i, input, event, st);
+}
+
+// The same of a part: one without children takes no walk.
+fn awake_part(table: &[u8], i: usize, input: bool, event: usize, st: &mut [u32; Limits::RECORDS])
+    requires { ⌜ Spot (now table) i ⌝ }
+    ensures { λ _. ⌜ now (st .exit) ≡ awake (wakes (eventFrom input event)) (treeOf (now (table .entry)) i) (now (st .entry)) ⌝ }
+{
+    if children_at(table, i) == 0 {
+        awake_one(table, i, input, event, st);
+        return;
+    }
+    awake(table, i, input, event, st);
+}
+
+// Neither woken nor n, a turn at this level.
+fn at_rest(state: u32, n: u32) -> bool
+    ensures { λ r. ⌜ r ≡ stillAt n state ⌝ }
+{
     if state == 2 {
         return false;
     }
-    if state == n {
+    state != n
+}
+
+// Blocked, or nothing lives: each state at place i and below rests.
+pub fn blocked(table: &[u8], i: usize, n: u32, st: &[u32; Limits::RECORDS]) -> bool
+    requires { ⌜ Spot (now table) i ⌝ }
+    ensures { λ r. ⌜ r ≡ still n (treeOf (now (table .entry)) i) (now (st .entry)) ⌝ }
+{
+    if !at_rest(st[i], n) {
         return false;
     }
     if children_at(table, i) == 2 {
-        if blocked(table, i + 1, n, st) {
+        if blocked_part(table, i + 1, n, st) {
             let j = second_at(table, i);
-            return blocked(table, j, n, st);
+            return blocked_part(table, j, n, st);
         }
         return false;
     }
     if kind_at(table, i) == 14 {
-        return blocked(table, i + 1, n, st);
+        return blocked_part(table, i + 1, n, st);
     }
     true
+}
+
+// The same of a part: one without children takes no walk.
+fn blocked_part(table: &[u8], i: usize, n: u32, st: &[u32; Limits::RECORDS]) -> bool
+    requires { ⌜ Spot (now table) i ⌝ }
+    ensures { λ r. ⌜ r ≡ still n (treeOf (now (table .entry)) i) (now (st .entry)) ⌝ }
+{
+    if children_at(table, i) == 0 {
+        return at_rest(st[i], n);
+    }
+    blocked(table, i, n, st)
 }

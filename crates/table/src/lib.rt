@@ -73,14 +73,21 @@ pub fn second_at(table: &[u8], i: usize) -> usize
     i + 1 + span_at(table, i + 1)
 }
 
-// How many children each kind has, from kind 0 on.
-const CHILDREN: [u8; 20] = [0, 0, 0, 0, 0, 0, 0, 0, 0, 0, 0, 0, 2, 2, 1, 1, 1, 2, 2, 1];
-
-// 3 for a kind over 19.
+// How many children a kind has; 3 for a kind over 19.
 pub fn children_of(kind: usize) -> u8
     ensures { λ r. ⌜ (r ≡ childrenOf kind) × (r ≤ 3) ⌝ }
 {
-    if kind < 20 { CHILDREN[kind] } else { 3 }
+    match kind {
+        12 => 2,
+        13 => 2,
+        14 => 1,
+        15 => 1,
+        16 => 1,
+        17 => 2,
+        18 => 2,
+        19 => 1,
+        _ => { if kind < 12 { 0 } else { 3 } }
+    }
 }
 
 pub fn children_at(table: &[u8], i: usize) -> u8

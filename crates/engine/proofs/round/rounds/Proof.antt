@@ -23,7 +23,7 @@ loop-holds : tie.Need-loop-holds Inv-loop μ-loop
 loop-holds c = (omega arith, omega arith, omega arith, refl, refl)
 
 returns : tie.Need-returns Inv-loop μ-loop
-returns c = end-step _ _ _ _ _ _ _ _ _ (c .before .before .before .before .loop-test .taken) (c .before .before .tick .ensures _ _) (c .before .if1 .taken) (c .if2 .taken) ∙ c .before .before .before .before .before .loop .inv .4
+returns c = rw (c .rounded .ensures .0, c .rounded .ensures .1, c .rounded .ensures .2) (end-step _ _ _ _ _ _ _ _ _ (c .before .before .before .before .before .loop-test .taken) (c .before .before .before .tick .ensures _ _) (c .before .before .if1 .taken) (c .before .if2 .taken) ∙ c .before .before .before .before .before .before .loop .inv .4)
 
 loop-less : tie.Need-loop-less Inv-loop μ-loop
 loop-less c = omega (arith, c .before .before .before .before .before .before .before .before .before .before .before .before .before .before .before .pre .1)
@@ -38,7 +38,7 @@ loop-again-2 : tie.Need-loop-again-2 Inv-loop μ-loop
 loop-again-2 c = (omega arith, omega arith, omega arith, search needs, push-step _ _ _ _ _ _ _ _ _ (c .before .before .before .before .before .before .before .before .before .before .before .loop-test .taken) (c .before .before .before .before .before .before .before .before .before .tick .ensures _ _) _ _ _ (c .before .before .before .before .before .before .before .before .if1 .left) (c .before .before .before .before .before .before .before .larger .ensures) (c .before .before .pushed .ensures) ∙ c .before .before .before .before .before .before .before .before .before .before .before .before .loop .inv .4)
 
 returns-2 : tie.Need-returns-2 Inv-loop μ-loop
-returns-2 c = none-left _ _ _ _ _ _ _ _ (omega arith) ∙ c .before .loop .inv .4
+returns-2 c = rw (c .rounded2 .ensures .0, c .rounded2 .ensures .1, c .rounded2 .ensures .2) (none-left _ _ _ _ _ _ _ _ (omega arith) ∙ c .before .before .loop .inv .4)
 
 pub rounds-spec : {M : Type 1} → statement M
 rounds-spec =
@@ -49,6 +49,7 @@ rounds-spec =
     loop-holds
     (λ c κs. tt)
     (λ c. omega (arith, c .before .before .before .before .before .before .pre .1))
+    (λ c κs. tt)
     (λ c. search needs)
     returns
     (λ c. omega (arith, c .before .before .before .before .before .before .before .before .pre .1))
@@ -61,5 +62,6 @@ rounds-spec =
     (λ c κs. (c .before .before .before .before .before .before .before .before .before .before .before .before .pre .0, omega (arith, c .before .before .before .before .before .before .before .before .before .before .before .before .pre .1)))
     loop-less-2
     loop-again-2
+    (λ c κs. tt)
     (λ c. search needs)
     returns-2)

@@ -7,33 +7,37 @@ use borrow.Author.Needs.{needs}
 use borrow.Author.Tests.{eq-eqb, ne-eqb}
 use Rattle.rules.specs.Tree.{input, internal}
 use Rattle.rules.specs.Table.{spanAt}
-use Rattle.engine.proofs.Spots.{spot-down, spot-next, down, next, children, par-children}
+use Rattle.engine.proofs.Spots.{spot-down, spot-next, down, next, down-above, next-above, children, par-children}
 use Rattle.engine.proofs.Fresh.{walk-memory, exec-memory, then-right, two-ticks}
-use Rattle.engine.proofs.Live.{resume-await, resume-emit, resume-if, resume-seq, resume-loop, resume-every, resume-par, resume-fin, resume-rest, exec-loop-run, right-alone-run}
+use Rattle.engine.proofs.Live.{resume-await, resume-emit, resume-if, resume-seq, resume-loop, resume-every, resume-par, resume-fin, resume-rest, resume-idle, exec-loop-run, right-alone-run}
 use borrow.Fn.Kinds.{In}
 use borrow.Fn.PlainCycle.{Measures, is, falls, and}
 use Rattle.engine.proofs.resume.resume.Reads as resume
 use Rattle.engine.proofs.resume.resume.Kinds as resume-kinds
-use Rattle.engine.proofs.resume.+resume+resume_both+resume_if+resume_loop+resume_par+resume_seq.Lts-resume as resume-lts
+use Rattle.engine.proofs.resume.+resume+resume_both+resume_if+resume_loop+resume_par+resume_part+resume_seq.Lts-resume as resume-lts
 use Rattle.engine.proofs.resume.resume_both.Reads as resume-both
 use Rattle.engine.proofs.resume.resume_both.Kinds as resume-both-kinds
-use Rattle.engine.proofs.resume.+resume+resume_both+resume_if+resume_loop+resume_par+resume_seq.Lts-resume_both as resume-both-lts
+use Rattle.engine.proofs.resume.+resume+resume_both+resume_if+resume_loop+resume_par+resume_part+resume_seq.Lts-resume_both as resume-both-lts
 use Rattle.engine.proofs.resume.resume_if.Reads as resume-if
 use Rattle.engine.proofs.resume.resume_if.Kinds as resume-if-kinds
-use Rattle.engine.proofs.resume.+resume+resume_both+resume_if+resume_loop+resume_par+resume_seq.Lts-resume_if as resume-if-lts
+use Rattle.engine.proofs.resume.+resume+resume_both+resume_if+resume_loop+resume_par+resume_part+resume_seq.Lts-resume_if as resume-if-lts
 use Rattle.engine.proofs.resume.resume_loop.Reads as resume-loop
 use Rattle.engine.proofs.resume.resume_loop.Kinds as resume-loop-kinds
-use Rattle.engine.proofs.resume.+resume+resume_both+resume_if+resume_loop+resume_par+resume_seq.Lts-resume_loop as resume-loop-lts
+use Rattle.engine.proofs.resume.+resume+resume_both+resume_if+resume_loop+resume_par+resume_part+resume_seq.Lts-resume_loop as resume-loop-lts
 use Rattle.engine.proofs.resume.resume_par.Reads as resume-par
 use Rattle.engine.proofs.resume.resume_par.Kinds as resume-par-kinds
-use Rattle.engine.proofs.resume.+resume+resume_both+resume_if+resume_loop+resume_par+resume_seq.Lts-resume_par as resume-par-lts
+use Rattle.engine.proofs.resume.+resume+resume_both+resume_if+resume_loop+resume_par+resume_part+resume_seq.Lts-resume_par as resume-par-lts
+use Rattle.engine.proofs.resume.resume_part.Reads as resume-part
+use Rattle.engine.proofs.resume.resume_part.Kinds as resume-part-kinds
+use Rattle.engine.proofs.resume.+resume+resume_both+resume_if+resume_loop+resume_par+resume_part+resume_seq.Lts-resume_part as resume-part-lts
 use Rattle.engine.proofs.resume.resume_seq.Reads as resume-seq
 use Rattle.engine.proofs.resume.resume_seq.Kinds as resume-seq-kinds
-use Rattle.engine.proofs.resume.+resume+resume_both+resume_if+resume_loop+resume_par+resume_seq.Lts-resume_seq as resume-seq-lts
+use Rattle.engine.proofs.resume.+resume+resume_both+resume_if+resume_loop+resume_par+resume_part+resume_seq.Lts-resume_seq as resume-seq-lts
 use Rattle.engine.proofs.clear.clear.Reads as clear-reads
 use Rattle.engine.proofs.exec.after_body.Reads as after-body-reads
 use Rattle.engine.proofs.exec.after_right.Reads as after-right-reads
 use Rattle.engine.proofs.exec.exec.Reads as exec-reads
+use Rattle.engine.proofs.resume.left_broke.Reads as left-broke-reads
 use Rattle.engine.proofs.resume.resume_await.Reads as resume-await-reads
 use Rattle.engine.proofs.resume.resume_emit.Reads as resume-emit-reads
 use Rattle.engine.proofs.resume.resume_every.Reads as resume-every-reads
@@ -41,10 +45,11 @@ use Rattle.engine.proofs.resume.resume_fin.Reads as resume-fin-reads
 use Rattle.engine.proofs.resume.resume_held.Reads as resume-held-reads
 use Rattle.engine.proofs.resume.right_alone.Reads as right-alone-reads
 use Rattle.memory.proofs.tick.Reads as tick-reads
+use Rattle.table.proofs.children_at.Reads as children-at-reads
 use Rattle.table.proofs.kind_at.Reads as kind-at-reads
 use Rattle.table.proofs.second_at.Reads as second-at-reads
-use Rattle.engine.proofs.resume.+resume+resume_both+resume_if+resume_loop+resume_par+resume_seq.{statement}
-use Rattle.engine.proofs.resume.+resume+resume_both+resume_if+resume_loop+resume_par+resume_seq.Tie.{close}
+use Rattle.engine.proofs.resume.+resume+resume_both+resume_if+resume_loop+resume_par+resume_part+resume_seq.{statement}
+use Rattle.engine.proofs.resume.+resume+resume_both+resume_if+resume_loop+resume_par+resume_part+resume_seq.Tie.{close}
 
 abbrev μ-resume : Measures 5 resume-kinds.ps ℕ
 μ-resume κs a = spanAt (a .0 .now) (a .1 .0) * 3 + 2
@@ -60,6 +65,9 @@ abbrev μ-resume-loop : Measures 5 resume-loop-kinds.ps ℕ
 
 abbrev μ-resume-par : Measures 5 resume-par-kinds.ps ℕ
 μ-resume-par κs a = spanAt (a .0 .now) (a .1 .0) * 3 + 1
+
+abbrev μ-resume-part : Measures 5 resume-part-kinds.ps ℕ
+μ-resume-part κs a = spanAt (a .0 .now) (a .1 .0) * 3 + 3
 
 abbrev μ-resume-seq : Measures 5 resume-seq-kinds.ps ℕ
 μ-resume-seq κs a = spanAt (a .0 .now) (a .1 .0) * 3 + 1
@@ -94,6 +102,12 @@ resume-par-at t = and 5 resume-par-kinds.ps (is 5 resume-par-kinds.ps μ-resume-
 abbrev resume-par-below : ℕ → In 5 resume-par-kinds.ps
 resume-par-below t = and 5 resume-par-kinds.ps (falls 5 resume-par-kinds.ps _<_ μ-resume-par t) resume-par.Pre
 
+abbrev resume-part-at : ℕ → In 5 resume-part-kinds.ps
+resume-part-at t = and 5 resume-part-kinds.ps (is 5 resume-part-kinds.ps μ-resume-part t) resume-part.Pre
+
+abbrev resume-part-below : ℕ → In 5 resume-part-kinds.ps
+resume-part-below t = and 5 resume-part-kinds.ps (falls 5 resume-part-kinds.ps _<_ μ-resume-part t) resume-part.Pre
+
 abbrev resume-seq-at : ℕ → In 5 resume-seq-kinds.ps
 resume-seq-at t = and 5 resume-seq-kinds.ps (is 5 resume-seq-kinds.ps μ-resume-seq t) resume-seq.Pre
 
@@ -104,10 +118,10 @@ abbrev claims-resume : ℕ → resume-lts.Claims
 claims-resume t = (kind-at-reads.Asked, kind-at-reads.Learnt, resume-await-reads.Asked, resume-await-reads.Learnt, resume-emit-reads.Asked, resume-emit-reads.Learnt, resume-if-below t, resume-if.Post, resume-seq-below t, resume-seq.Post, resume-loop-below t, resume-loop.Post, resume-every-reads.Asked, resume-every-reads.Learnt, resume-par-below t, resume-par.Post, resume-fin-reads.Asked, resume-fin-reads.Learnt)
 
 abbrev claims-resume-both : ℕ → resume-both-lts.Claims
-claims-resume-both t = (second-at-reads.Asked, second-at-reads.Learnt, resume-below t, resume.Post, right-alone-reads.Asked, right-alone-reads.Learnt, clear-reads.Asked, clear-reads.Learnt, tick-reads.Asked, tick-reads.Learnt, after-right-reads.Asked, after-right-reads.Learnt)
+claims-resume-both t = (second-at-reads.Asked, second-at-reads.Learnt, resume-below t, resume.Post, right-alone-reads.Asked, right-alone-reads.Learnt, clear-reads.Asked, clear-reads.Learnt, tick-reads.Asked, tick-reads.Learnt, left-broke-reads.Asked, left-broke-reads.Learnt, after-right-reads.Asked, after-right-reads.Learnt)
 
 abbrev claims-resume-if : ℕ → resume-if-lts.Claims
-claims-resume-if t = (resume-below t, resume.Post, second-at-reads.Asked, second-at-reads.Learnt)
+claims-resume-if t = (resume-part-below t, resume-part.Post, second-at-reads.Asked, second-at-reads.Learnt)
 
 abbrev claims-resume-loop : ℕ → resume-loop-lts.Claims
 claims-resume-loop t = (resume-below t, resume.Post, tick-reads.Asked, tick-reads.Learnt, exec-reads.Asked, exec-reads.Learnt, after-body-reads.Asked, after-body-reads.Learnt)
@@ -115,8 +129,11 @@ claims-resume-loop t = (resume-below t, resume.Post, tick-reads.Asked, tick-read
 abbrev claims-resume-par : ℕ → resume-par-lts.Claims
 claims-resume-par t = (resume-below t, resume.Post, resume-both-below t, resume-both.Post, resume-held-reads.Asked, resume-held-reads.Learnt)
 
+abbrev claims-resume-part : ℕ → resume-part-lts.Claims
+claims-resume-part t = (children-at-reads.Asked, children-at-reads.Learnt, resume-below t, resume.Post)
+
 abbrev claims-resume-seq : ℕ → resume-seq-lts.Claims
-claims-resume-seq t = (resume-below t, resume.Post, second-at-reads.Asked, second-at-reads.Learnt, tick-reads.Asked, tick-reads.Learnt, exec-reads.Asked, exec-reads.Learnt)
+claims-resume-seq t = (resume-part-below t, resume-part.Post, second-at-reads.Asked, second-at-reads.Learnt, tick-reads.Asked, tick-reads.Learnt, exec-reads.Asked, exec-reads.Learnt)
 
 resume-resume-loop-requires : (t : ℕ) → resume-lts.Need-resume-loop-requires (claims-resume t) (resume-at t) resume.Post
 resume-resume-loop-requires t c κs = (omega arith, ((c .before .before .before .before .before .before .before .before .pre .1), (sym (c .before .before .before .before .before .kind-at .ensures .0) ∙ c .before .before .before .before .match .keys6)))
@@ -166,37 +183,34 @@ resume-both-returns-2 : (t : ℕ) → resume-both-lts.Need-returns-2 (claims-res
 resume-both-returns-2 t c = rw (c .before .before .before .before .before .before .before .before .before .before .before .enum-told2 .given .1, c .before .before .before .before .before .before .before .before .before .before .if1 .left, ← c .before .before .before .before .before .before .before .before .before .before .before .before .before .second-at .ensures, ← c .before .before .before .before .before .clear .ensures, c .before .before .if2 .taken) (walk-memory (c .tick .ensures _ _))
 
 resume-both-returns-3 : (t : ℕ) → resume-both-lts.Need-returns-3 (claims-resume-both t) (resume-both-at t) resume-both.Post
-resume-both-returns-3 t c = rw (c .before .before .before .before .before .before .before .before .before .before .before .before .enum-told3 .given .1, ← c .before .before .before .before .before .before .before .before .before .before .before .before .before .before .second-at .ensures, ← c .before .before .before .before .before .before .before .clear2 .ensures, c .before .before .before .before .if3 .taken) (walk-memory (two-ticks _ _ (c .before .before .tick2 .ensures _ _) (c .tick3 .ensures _ _)))
+resume-both-returns-3 t c = rw (c .before .before .before .before .before .before .before .enum-told .given .1, ← c .before .before .before .before .before .before .before .before .before .second-at .ensures) (c .before .before .resume .ensures)
 
 resume-both-returns-4 : (t : ℕ) → resume-both-lts.Need-returns-4 (claims-resume-both t) (resume-both-at t) resume-both.Post
-resume-both-returns-4 t c = rw (c .before .before .before .before .before .before .before .enum-told .given .1, ← c .before .before .before .before .before .before .before .before .before .second-at .ensures) (c .before .before .resume .ensures)
+resume-both-returns-4 t c = rw (c .before .before .before .before .before .before .before .before .before .enum-told2 .given .1, c .before .before .before .before .before .before .before .before .if1 .left, ← c .before .before .before .before .before .before .before .before .before .before .before .second-at .ensures, ← c .before .before .before .clear .ensures, c .if2 .left)
 
 resume-both-returns-5 : (t : ℕ) → resume-both-lts.Need-returns-5 (claims-resume-both t) (resume-both-at t) resume-both.Post
-resume-both-returns-5 t c = rw (c .before .before .before .before .before .before .before .before .before .enum-told2 .given .1, c .before .before .before .before .before .before .before .before .if1 .left, ← c .before .before .before .before .before .before .before .before .before .before .before .second-at .ensures, ← c .before .before .before .clear .ensures, c .if2 .left)
+resume-both-returns-5 t c = rw (c .before .before .before .before .before .before .before .enum-told3 .given .1, ← c .before .before .before .before .before .before .before .before .before .second-at .ensures) (c .before .before .left-broke .ensures)
 
 resume-both-returns-6 : (t : ℕ) → resume-both-lts.Need-returns-6 (claims-resume-both t) (resume-both-at t) resume-both.Post
-resume-both-returns-6 t c = rw (c .before .before .before .before .before .before .before .before .enum-told3 .given .1, ← c .before .before .before .before .before .before .before .before .before .before .second-at .ensures, ← c .before .before .before .clear2 .ensures, c .if3 .left)
+resume-both-returns-6 t c = rw (c .before .before .before .before .before .before .before .before .before .before .before .before .before .before .enum-told4 .given .1, ← c .before .before .before .before .before .before .before .before .before .before .before .before .before .before .before .before .second-at .ensures) (c .before .before .after-right .ensures ∙ then-right _ _ (c .before .before .before .before .before .before .before .before .before .resume3 .ensures))
 
 resume-both-returns-7 : (t : ℕ) → resume-both-lts.Need-returns-7 (claims-resume-both t) (resume-both-at t) resume-both.Post
-resume-both-returns-7 t c = rw (c .before .before .before .before .before .before .before .before .before .before .before .before .before .before .enum-told4 .given .1, ← c .before .before .before .before .before .before .before .before .before .before .before .before .before .before .before .before .second-at .ensures) (c .before .before .after-right .ensures ∙ then-right _ _ (c .before .before .before .before .before .before .before .before .before .resume3 .ensures))
-
-resume-both-returns-8 : (t : ℕ) → resume-both-lts.Need-returns-8 (claims-resume-both t) (resume-both-at t) resume-both.Post
-resume-both-returns-8 t c = rw (c .before .how .given .1)
+resume-both-returns-7 t c = rw (c .before .how .given .1)
 
 resume-if-returns : (t : ℕ) → resume-if-lts.Need-returns (claims-resume-if t) (resume-if-at t) resume-if.Post
-resume-if-returns t c = rw (resume-if _ _ ((c .before .before .before .before .before .before .before .before .before .before .before .before .before .before .before .before .before .before .before .pre .1 .0) .place) _ _ _ (c .before .before .before .before .before .before .before .before .before .before .before .before .before .before .before .before .before .before .before .pre .1 .1), ← c .before .before .before .before .before .before .before .before .before .before .before .before .resume .ensures, c .before .before .before .before .before .before .before .before .enum-told .given .1, ← c .before .before .before .before .before .before .before .second-at .ensures) (c .before .before .resume2 .ensures)
+resume-if-returns t c = rw (resume-if _ _ ((c .before .before .before .before .before .before .before .before .before .before .before .before .before .before .before .before .before .before .before .pre .1 .0) .place) _ _ _ (c .before .before .before .before .before .before .before .before .before .before .before .before .before .before .before .before .before .before .before .pre .1 .1), ← c .before .before .before .before .before .before .before .before .before .before .before .before .resume-part .ensures, c .before .before .before .before .before .before .before .before .enum-told .given .1, ← c .before .before .before .before .before .before .before .second-at .ensures) (c .before .before .resume-part2 .ensures)
 
 resume-if-returns-2 : (t : ℕ) → resume-if-lts.Need-returns-2 (claims-resume-if t) (resume-if-at t) resume-if.Post
-resume-if-returns-2 t c = rw (resume-if _ _ ((c .before .before .before .before .before .before .before .before .before .before .before .pre .1 .0) .place) _ _ _ (c .before .before .before .before .before .before .before .before .before .before .before .pre .1 .1), ← c .before .before .before .before .resume .ensures, c .enum-told2 .given .1)
+resume-if-returns-2 t c = rw (resume-if _ _ ((c .before .before .before .before .before .before .before .before .before .before .before .pre .1 .0) .place) _ _ _ (c .before .before .before .before .before .before .before .before .before .before .before .pre .1 .1), ← c .before .before .before .before .resume-part .ensures, c .enum-told2 .given .1)
 
 resume-if-returns-3 : (t : ℕ) → resume-if-lts.Need-returns-3 (claims-resume-if t) (resume-if-at t) resume-if.Post
-resume-if-returns-3 t c = rw (resume-if _ _ ((c .before .before .before .before .before .before .before .before .before .before .before .pre .1 .0) .place) _ _ _ (c .before .before .before .before .before .before .before .before .before .before .before .pre .1 .1), ← c .before .before .before .before .resume .ensures, c .enum-told3 .given .1)
+resume-if-returns-3 t c = rw (resume-if _ _ ((c .before .before .before .before .before .before .before .before .before .before .before .pre .1 .0) .place) _ _ _ (c .before .before .before .before .before .before .before .before .before .before .before .pre .1 .1), ← c .before .before .before .before .resume-part .ensures, c .enum-told3 .given .1)
 
 resume-if-returns-4 : (t : ℕ) → resume-if-lts.Need-returns-4 (claims-resume-if t) (resume-if-at t) resume-if.Post
-resume-if-returns-4 t c = rw (resume-if _ _ ((c .before .before .before .before .before .before .before .before .before .before .before .pre .1 .0) .place) _ _ _ (c .before .before .before .before .before .before .before .before .before .before .before .pre .1 .1), ← c .before .before .before .before .resume .ensures, c .enum-told4 .given .1)
+resume-if-returns-4 t c = rw (resume-if _ _ ((c .before .before .before .before .before .before .before .before .before .before .before .pre .1 .0) .place) _ _ _ (c .before .before .before .before .before .before .before .before .before .before .before .pre .1 .1), ← c .before .before .before .before .resume-part .ensures, c .enum-told4 .given .1)
 
 resume-if-returns-5 : (t : ℕ) → resume-if-lts.Need-returns-5 (claims-resume-if t) (resume-if-at t) resume-if.Post
-resume-if-returns-5 t c = rw (resume-if _ _ ((c .before .before .before .before .before .before .before .before .before .before .before .before .pre .1 .0) .place) _ _ _ (c .before .before .before .before .before .before .before .before .before .before .before .before .pre .1 .1), ← c .before .before .before .before .before .resume .ensures, c .before .how .given .1)
+resume-if-returns-5 t c = rw (resume-if _ _ ((c .before .before .before .before .before .before .before .before .before .before .before .before .pre .1 .0) .place) _ _ _ (c .before .before .before .before .before .before .before .before .before .before .before .before .pre .1 .1), ← c .before .before .before .before .before .resume-part .ensures, c .before .how .given .1)
 
 resume-loop-returns : (t : ℕ) → resume-loop-lts.Need-returns (claims-resume-loop t) (resume-loop-at t) resume-loop.Post
 resume-loop-returns t c = rw (resume-loop _ _ ((c .before .before .before .before .before .before .before .before .before .before .before .pre .1 .0) .place) _ _ _ (c .before .before .before .before .before .before .before .before .before .before .before .pre .1 .1), ← c .before .before .before .before .resume .ensures, c .enum-told .given .1)
@@ -219,30 +233,37 @@ resume-par-returns t c = rw (resume-par _ _ ((c .before .before .before .before 
 resume-par-returns-2 : (t : ℕ) → resume-par-lts.Need-returns-2 (claims-resume-par t) (resume-par-at t) resume-par.Post
 resume-par-returns-2 t c = rw (resume-par _ _ ((c .before .before .before .before .before .before .before .before .before .before .before .before .before .before .before .before .before .before .pre .1 .0) .place) _ _ _ (c .before .before .before .before .before .before .before .before .before .before .before .before .before .before .before .before .before .before .args .and) (c .before .before .before .before .before .before .before .before .before .before .before .before .before .before .before .before .before .before .pre .1 .1), ← c .before .before .before .before .before .before .before .before .before .before .resume .ensures, ne-eqb _ _ (c .before .before .before .before .before .before .before .if1 .left)) (c .before .before .resume-held .ensures)
 
+resume-part-returns : (t : ℕ) → resume-part-lts.Need-returns (claims-resume-part t) (resume-part-at t) resume-part.Post
+resume-part-returns t c = sym (resume-idle _ _ ((c .before .before .before .before .before .before .pre .1) .place) _ _ _ (sym (c .before .before .before .children-at .ensures .0) ∙ c .before .before .if1 .taken) (c .if2 .taken))
+
+resume-part-returns-2 : (t : ℕ) → resume-part-lts.Need-returns-2 (claims-resume-part t) (resume-part-at t) resume-part.Post
+resume-part-returns-2 t c = c .before .before .resume .ensures
+
 resume-seq-returns : (t : ℕ) → resume-seq-lts.Need-returns (claims-resume-seq t) (resume-seq-at t) resume-seq.Post
-resume-seq-returns t c = rw (resume-seq _ _ ((c .before .before .before .before .before .before .before .before .before .before .before .before .before .before .before .before .before .before .before .pre .1 .0) .place) _ _ _ (c .before .before .before .before .before .before .before .before .before .before .before .before .before .before .before .before .before .before .before .pre .1 .1), ← c .before .before .before .before .before .before .before .before .before .before .before .before .resume .ensures, c .before .before .before .before .before .before .before .before .enum-told .given .1, ← c .before .before .before .before .before .before .before .second-at .ensures) (c .before .before .resume2 .ensures)
+resume-seq-returns t c = rw (resume-seq _ _ ((c .before .before .before .before .before .before .before .before .before .before .before .before .before .before .before .before .before .before .before .pre .1 .0) .place) _ _ _ (c .before .before .before .before .before .before .before .before .before .before .before .before .before .before .before .before .before .before .before .pre .1 .1), ← c .before .before .before .before .before .before .before .before .before .before .before .before .resume-part .ensures, c .before .before .before .before .before .before .before .before .enum-told .given .1, ← c .before .before .before .before .before .before .before .second-at .ensures) (c .before .before .resume-part2 .ensures)
 
 resume-seq-returns-2 : (t : ℕ) → resume-seq-lts.Need-returns-2 (claims-resume-seq t) (resume-seq-at t) resume-seq.Post
-resume-seq-returns-2 t c = rw (resume-seq _ _ ((c .before .before .before .before .before .before .before .before .before .before .before .before .before .before .before .before .before .before .before .before .before .pre .1 .0) .place) _ _ _ (c .before .before .before .before .before .before .before .before .before .before .before .before .before .before .before .before .before .before .before .before .before .pre .1 .1), ← c .before .before .before .before .before .before .before .before .before .before .before .before .before .before .resume .ensures, c .before .before .before .before .before .before .before .before .before .before .enum-told2 .given .1, ← c .before .before .before .before .before .before .before .second-at2 .ensures) (c .before .before .exec .ensures ∙ exec-memory _ _ _ (c .before .before .before .before .before .before .before .before .tick .ensures _ _))
+resume-seq-returns-2 t c = rw (resume-seq _ _ ((c .before .before .before .before .before .before .before .before .before .before .before .before .before .before .before .before .before .before .before .before .before .pre .1 .0) .place) _ _ _ (c .before .before .before .before .before .before .before .before .before .before .before .before .before .before .before .before .before .before .before .before .before .pre .1 .1), ← c .before .before .before .before .before .before .before .before .before .before .before .before .before .before .resume-part .ensures, c .before .before .before .before .before .before .before .before .before .before .enum-told2 .given .1, ← c .before .before .before .before .before .before .before .second-at2 .ensures) (c .before .before .exec .ensures ∙ exec-memory _ _ _ (c .before .before .before .before .before .before .before .before .tick .ensures _ _))
 
 resume-seq-returns-3 : (t : ℕ) → resume-seq-lts.Need-returns-3 (claims-resume-seq t) (resume-seq-at t) resume-seq.Post
-resume-seq-returns-3 t c = rw (resume-seq _ _ ((c .before .before .before .before .before .before .before .before .before .before .before .before .before .pre .1 .0) .place) _ _ _ (c .before .before .before .before .before .before .before .before .before .before .before .before .before .pre .1 .1), ← c .before .before .before .before .before .before .resume .ensures, c .before .before .enum-told3 .given .1) (walk-memory (c .tick2 .ensures _ _))
+resume-seq-returns-3 t c = rw (resume-seq _ _ ((c .before .before .before .before .before .before .before .before .before .before .before .before .before .pre .1 .0) .place) _ _ _ (c .before .before .before .before .before .before .before .before .before .before .before .before .before .pre .1 .1), ← c .before .before .before .before .before .before .resume-part .ensures, c .before .before .enum-told3 .given .1) (walk-memory (c .tick2 .ensures _ _))
 
 resume-seq-returns-4 : (t : ℕ) → resume-seq-lts.Need-returns-4 (claims-resume-seq t) (resume-seq-at t) resume-seq.Post
-resume-seq-returns-4 t c = rw (resume-seq _ _ ((c .before .before .before .before .before .before .before .before .before .before .before .pre .1 .0) .place) _ _ _ (c .before .before .before .before .before .before .before .before .before .before .before .pre .1 .1), ← c .before .before .before .before .resume .ensures, c .enum-told4 .given .1)
+resume-seq-returns-4 t c = rw (resume-seq _ _ ((c .before .before .before .before .before .before .before .before .before .before .before .pre .1 .0) .place) _ _ _ (c .before .before .before .before .before .before .before .before .before .before .before .pre .1 .1), ← c .before .before .before .before .resume-part .ensures, c .enum-told4 .given .1)
 
 resume-seq-returns-5 : (t : ℕ) → resume-seq-lts.Need-returns-5 (claims-resume-seq t) (resume-seq-at t) resume-seq.Post
-resume-seq-returns-5 t c = rw (resume-seq _ _ ((c .before .before .before .before .before .before .before .before .before .before .before .before .pre .1 .0) .place) _ _ _ (c .before .before .before .before .before .before .before .before .before .before .before .before .pre .1 .1), ← c .before .before .before .before .before .resume .ensures, c .before .how .given .1)
+resume-seq-returns-5 t c = rw (resume-seq _ _ ((c .before .before .before .before .before .before .before .before .before .before .before .before .pre .1 .0) .place) _ _ _ (c .before .before .before .before .before .before .before .before .before .before .before .before .pre .1 .1), ← c .before .before .before .before .before .resume-part .ensures, c .before .how .given .1)
 
-pub +resume+resume-both+resume-if+resume-loop+resume-par+resume-seq-spec :
+pub +resume+resume-both+resume-if+resume-loop+resume-par+resume-part+resume-seq-spec :
     {M : Type 1} → statement M
-+resume+resume-both+resume-if+resume-loop+resume-par+resume-seq-spec =
++resume+resume-both+resume-if+resume-loop+resume-par+resume-part+resume-seq-spec =
     close
     μ-resume
     μ-resume-both
     μ-resume-if
     μ-resume-loop
     μ-resume-par
+    μ-resume-part
     μ-resume-seq
     (λ t. resume-lts.spec (claims-resume t) (resume-at t) resume.Post
     (λ c κs. ((c .before .before .pre .1) .place) .inside)
@@ -291,29 +312,25 @@ pub +resume+resume-both+resume-if+resume-loop+resume-par+resume-seq-spec :
     (resume-both-returns-2 t)
     (λ c. search needs)
     (λ c κs. spot-next _ _ (c .before .before .before .before .before .before .before .before .before .pre .1 .0) (par-children (c .before .before .before .before .before .before .before .before .before .args .and) (c .before .before .before .before .before .before .before .before .before .pre .1 .1)) (c .before .before .before .before .before .before .second-at .ensures))
-    (λ c κs. tt)
-    (λ c κs. tt)
-    (λ c. search needs)
-    (resume-both-returns-3 t)
     (λ c. search needs)
     (λ c κs. next _ _ (c .before .before .before .before .before .before .before .before .before .pre .1 .0) (omega (arith, c .before .before .before .before .before .before .before .before .before .pre .0)) (par-children (c .before .before .before .before .before .before .before .before .before .args .and) (c .before .before .before .before .before .before .before .before .before .pre .1 .1)) (c .before .before .before .before .before .before .second-at .ensures))
     (λ c κs. ((c .before .before .before .before .before .before .before .before .before .before .before .before .before .before .before .before .pre .1 .0), (c .before .before .before .before .before .before .before .before .before .before .before .before .before .before .before .before .pre .1 .1)))
     (λ c. search needs)
+    (λ c. search needs)
+    (resume-both-returns-3 t)
     (λ c. search needs)
     (resume-both-returns-4 t)
     (λ c. search needs)
     (resume-both-returns-5 t)
     (λ c. search needs)
     (resume-both-returns-6 t)
-    (λ c. search needs)
-    (resume-both-returns-7 t)
-    (resume-both-returns-8 t))
+    (resume-both-returns-7 t))
     (λ t. resume-if-lts.spec (claims-resume-if t) (resume-if-at t) resume-if.Post
     (λ c. omega (arith, ((c .before .before .pre .1 .0) .place) .inside, (c .before .before .pre .1 .0) .small))
-    (λ c κs. down _ _ (c .before .before .before .before .before .before .pre .1 .0) (omega (arith, c .before .before .before .before .before .before .pre .0)) (children 12 (c .before .before .before .before .before .before .pre .1 .1) tt))
+    (λ c κs. down-above _ _ (c .before .before .before .before .before .before .pre .1 .0) (omega (arith, c .before .before .before .before .before .before .pre .0)) (children 12 (c .before .before .before .before .before .before .pre .1 .1) tt))
     (λ c. search needs)
     (λ c κs. spot-down _ _ (c .before .before .before .before .before .before .before .before .before .before .before .pre .1 .0) (children 12 (c .before .before .before .before .before .before .before .before .before .before .before .pre .1 .1) tt) .place .inside)
-    (λ c κs. next _ _ (c .before .before .before .before .before .before .before .before .before .before .before .before .before .before .before .before .pre .1 .0) (omega (arith, c .before .before .before .before .before .before .before .before .before .before .before .before .before .before .before .before .pre .0)) (children 12 (c .before .before .before .before .before .before .before .before .before .before .before .before .before .before .before .before .pre .1 .1) tt) (c .before .before .before .before .second-at .ensures))
+    (λ c κs. next-above _ _ (c .before .before .before .before .before .before .before .before .before .before .before .before .before .before .before .before .pre .1 .0) (omega (arith, c .before .before .before .before .before .before .before .before .before .before .before .before .before .before .before .before .pre .0)) (children 12 (c .before .before .before .before .before .before .before .before .before .before .before .before .before .before .before .before .pre .1 .1) tt) (c .before .before .before .before .second-at .ensures))
     (λ c. search needs)
     (λ c. search needs)
     (λ c. search needs)
@@ -363,12 +380,20 @@ pub +resume+resume-both+resume-if+resume-loop+resume-par+resume-seq-spec :
     (λ c κs. ((c .before .before .before .before .before .before .before .before .before .before .before .before .before .before .before .pre .1 .0), (c .before .before .before .before .before .before .before .before .before .before .before .before .before .before .before .pre .1 .1)))
     (λ c. search needs)
     (resume-par-returns-2 t))
+    (λ t. resume-part-lts.spec (claims-resume-part t) (resume-part-at t) resume-part.Post
+    (λ c κs. ((c .before .before .pre .1) .place) .inside)
+    (λ c. omega (arith, ((c .before .before .before .before .pre .1) .place) .inside, (c .before .before .before .before .pre .1) .small))
+    (λ c. omega (arith, ((c .before .before .before .before .pre .1) .place) .inside, (c .before .before .before .before .pre .1) .small))
+    (resume-part-returns t)
+    (λ c κs. (omega (arith, c .before .before .before .before .before .before .before .before .pre .0), (c .before .before .before .before .before .before .before .before .pre .1)))
+    (λ c. search needs)
+    (resume-part-returns-2 t))
     λ t. resume-seq-lts.spec (claims-resume-seq t) (resume-seq-at t) resume-seq.Post
     (λ c. omega (arith, ((c .before .before .pre .1 .0) .place) .inside, (c .before .before .pre .1 .0) .small))
-    (λ c κs. down _ _ (c .before .before .before .before .before .before .pre .1 .0) (omega (arith, c .before .before .before .before .before .before .pre .0)) (children 13 (c .before .before .before .before .before .before .pre .1 .1) tt))
+    (λ c κs. down-above _ _ (c .before .before .before .before .before .before .pre .1 .0) (omega (arith, c .before .before .before .before .before .before .pre .0)) (children 13 (c .before .before .before .before .before .before .pre .1 .1) tt))
     (λ c. search needs)
     (λ c κs. spot-down _ _ (c .before .before .before .before .before .before .before .before .before .before .before .pre .1 .0) (children 13 (c .before .before .before .before .before .before .before .before .before .before .before .pre .1 .1) tt) .place .inside)
-    (λ c κs. next _ _ (c .before .before .before .before .before .before .before .before .before .before .before .before .before .before .before .before .pre .1 .0) (omega (arith, c .before .before .before .before .before .before .before .before .before .before .before .before .before .before .before .before .pre .0)) (children 13 (c .before .before .before .before .before .before .before .before .before .before .before .before .before .before .before .before .pre .1 .1) tt) (c .before .before .before .before .second-at .ensures))
+    (λ c κs. next-above _ _ (c .before .before .before .before .before .before .before .before .before .before .before .before .before .before .before .before .pre .1 .0) (omega (arith, c .before .before .before .before .before .before .before .before .before .before .before .before .before .before .before .before .pre .0)) (children 13 (c .before .before .before .before .before .before .before .before .before .before .before .before .before .before .before .before .pre .1 .1) tt) (c .before .before .before .before .second-at .ensures))
     (λ c. search needs)
     (λ c κs. tt)
     (λ c κs. spot-down _ _ (c .before .before .before .before .before .before .before .before .before .before .before .before .before .pre .1 .0) (children 13 (c .before .before .before .before .before .before .before .before .before .before .before .before .before .pre .1 .1) tt) .place .inside)
