@@ -1,20 +1,19 @@
 -- The first place of a walk that a test hits.
 -- Assumes nothing.
-use mathlib.Core.Path.{_≡_, refl, ap, subst, _∙_}
+use mathlib.Core.Path.{_≡_, refl, ap, _∙_}
 use mathlib.Core.Bool.{Bool, true, false, _||_}
 use mathlib.Core.List.{List, [], _∷_, _++_}
-use Prim.Native.Nat.{ℕ, _+_, _≤_, _<_}
+use Prim.Native.Nat.{ℕ, _+_, _≤_}
 use native.Mathlib.Omega.{arith}
 use lib.Dec.{eqb}
 use Rattle.rules.specs.Stages.{if_then_else_}
-use Rattle.rules.specs.Table.{kindAt, secondAt, recordsOf}
+use Rattle.rules.specs.Table.{kindAt, secondAt}
 use Rattle.rules.specs.Check.{Around, Visit, aLoop, anEvery, aFin, walk, hits}
 use Rattle.table.specs.Kinds.{childrenOf}
 use Rattle.table.specs.Places.{Place, treeOf}
 use Rattle.table.proofs.Places.{children-most}
 use Rattle.table.specs.Found.{firstOf, orNext}
 use Rattle.acceptance.specs.Walks.{aroundOf, inner, visitAt, belowAt, first}
-use Rattle.table.specs.declared.Found.{Found}
 use Rattle.table.specs.declared.Found.the-variants.{At, Nothing}
 use Rattle.acceptance.specs.declared.walks.Around as Code
 use Rattle.acceptance.proofs.Visits.{walk-at}

@@ -9,7 +9,6 @@ use lib.Dec.{eqb, ltb}
 use lib.IntN.{pos}
 use lib.ListN.{getD, List·getD-eq-default}
 use borrow.Author.Tests.{not-true, not-false, eq-eqb, ne-eqb, lt-ltb, le-ltb}
-use Rattle.rules.specs.Stages.{if_then_else_, failing}
 use Rattle.rules.specs.Table.{Children, leaf, one, two, wrong, oneTo63, kinds, over19, kindAt, spanAt, secondAt, rowAt, recordsOf, spanFits, shapeRight, inRange, inKindsTable, nameAt, numberAt}
 use Rattle.table.specs.Kinds.{arity, childrenOf, rowOf}
 use Rattle.table.specs.Places.{bitsAt}

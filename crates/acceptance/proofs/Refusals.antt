@@ -3,12 +3,12 @@
 use mathlib.Core.Path.{_≡_, refl, sym, ap, subst, _∙_}
 use mathlib.Core.Bool.{Bool, true, false, not, _&&_}
 use mathlib.Core.List.{List, [], _∷_}
-use mathlib.Core.Option.{Option, some}
+use mathlib.Core.Option.{some}
 use Prim.Native.Nat.{ℕ, suc, _≤_, max}
 use native.Mathlib.Omega.{arith}
 use lib.Dec.{T, leb}
 use borrow.Author.Tests.{not-true, not-false, leb-false}
-use Rattle.rules.specs.Stages.{if_then_else_, Refusal, refusal, orElse, firstRefusal, failing}
+use Rattle.rules.specs.Stages.{if_then_else_, refusal, firstRefusal, failing}
 use Rattle.rules.specs.Limits.{mostLoops}
 use Rattle.rules.specs.Table.{recordsOf, shapeRight}
 use Rattle.rules.specs.Check.{refused, accepted, check, tableStages, announced, visitsOf, Visit, hits, isKind, deepLoop, deepest, goodLength}

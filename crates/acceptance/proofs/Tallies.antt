@@ -11,7 +11,7 @@ use Rattle.rules.specs.Stages.{if_then_else_}
 use Rattle.rules.specs.Table.{kindAt, secondAt, recordsOf}
 use Rattle.rules.specs.Check.{Around, Visit, walk, hits, count, deepest, isKind, outsideEvery, insideEvery, looseBreak, notPlain, deepLoop, endlessLoop}
 use Rattle.theory.specs.Logic.{both-left, both-right}
-use Rattle.theory.specs.Walk.{walk-size}
+use Rattle.theory.specs.Walk.{walk-size, count-append, deepest-append}
 use Rattle.table.specs.Kinds.{childrenOf}
 use Rattle.table.specs.Places.{Place, treeOf}
 use Rattle.table.proofs.Places.{children-most}
@@ -33,16 +33,6 @@ count-cons f v vs = go (f v)
     go : (x : Bool) → length (if x then v .place ∷ hits f vs else hits f vs) ≡ oneIf x + length (hits f vs)
     go true = omega arith
     go false = omega arith
-
-count-append : (f : Visit → Bool) (us vs : List Visit) → count f (us ++ vs) ≡ count f us + count f vs
-unfolding hits
-count-append f [] vs = omega arith
-count-append f (u ∷ us) vs = omega (arith, count-cons f u (us ++ vs), count-cons f u us, count-append f us vs)
-
-deepest-append : (us vs : List Visit) → deepest (us ++ vs) ≡ max (deepest us) (deepest vs)
-unfolding deepest
-deepest-append [] vs = omega arith
-deepest-append (u ∷ us) vs = omega (arith, deepest-append us vs)
 
 pass-append : (us vs : List Visit) → allPass (us ++ vs) ≡ (allPass us && allPass vs)
 unfolding allPass
@@ -117,7 +107,7 @@ one-most : (x : Bool) → oneIf x ≤ 1
 one-most true = omega arith
 one-most false = omega arith
 
-count-most : (f : Visit → Bool) (vs : List Visit) → count f vs ≤ length vs
+pub count-most : (f : Visit → Bool) (vs : List Visit) → count f vs ≤ length vs
 unfolding hits
 count-most f [] = omega arith
 count-most f (v ∷ vs) = omega (arith, count-cons f v vs, one-most (f v), count-most f vs)

@@ -1,19 +1,19 @@
 -- From what is held to the answer: what is stored, and what is answered, is what the rules say.
 -- Assumes nothing.
-use mathlib.Core.Path.{_≡_, refl, sym, ap, subst, _∙_}
-use mathlib.Core.Bool.{Bool, true, false, not, _&&_, _||_}
-use mathlib.Core.List.{List, [], _∷_, _++_}
-use mathlib.Core.Option.{Option, none, some}
-use Prim.Native.Nat.{ℕ, suc, _+_, _*_, _/_, _≤_, _<_, max, min}
+use mathlib.Core.Path.{_≡_, refl, sym, ap, _∙_}
+use mathlib.Core.Bool.{_&&_}
+use mathlib.Core.List.{List, [], _∷_}
+use mathlib.Core.Option.{Option, none}
+use Prim.Native.Nat.{ℕ, _+_, _*_, _≤_, _<_, min}
 use native.Mathlib.Omega.{arith}
-use lib.Dec.{T, eqb, leb, eqb→eq, leb→le}
-use lib.IntN.{ℤ, pos}
-use lib.ListN.{length, getD, set, take, drop, replicate, length-append, length-drop}
+use lib.Dec.{eqb, eqb→eq}
+use lib.IntN.{ℤ}
+use lib.ListN.{length, getD, take}
 use lib.Seq.{ext-getD, getD-take, length-take-le}
-use Rattle.rules.specs.Stages.{Refusal, Stage, failing, firstRefusal, if_then_else_, option, refusal, stage, unless}
+use Rattle.rules.specs.Stages.{Refusal, Stage, failing, firstRefusal, if_then_else_, option, refusal, stage}
 use Rattle.rules.specs.Limits.{mostRecords, recordBytes, topTotal, variables}
 use Rattle.rules.specs.Table.{programOf, recordsOf}
-use Rattle.rules.specs.Check.{announced, refused, tableStages, verdict}
+use Rattle.rules.specs.Check.{announced, refused}
 use Rattle.rules.specs.Marks.{allZero, lengthStage, markRight, marksStages, mayMark, misfits}
 use Rattle.rules.specs.Calls.{Lent, Outcome, Taken, answers, onto, outBytes, refuse, tested}
 use Rattle.theory.specs.Logic.{both-left, or-cases}
@@ -24,9 +24,8 @@ use Rattle.acceptance.specs.declared.Checked.{Checked}
 use Rattle.acceptance.specs.declared.Checked.the-variants.{Refused}
 use Rattle.memory.specs.Arrays.{arrays}
 use Rattle.memory.proofs.Standing.{stands-room}
-use Rattle.engine.specs.Walks.{mostRounds}
 use Rattle.calls.specs.declared.Answer.{Answer}
-use Rattle.calls.specs.Answers.{Ran, Uncounted, answerOf, answerRefused}
+use Rattle.calls.specs.Answers.{Ran, Uncounted, answerRefused}
 use Rattle.calls.specs.Holding.{Bytes, Stored}
 use Rattle.calls.specs.Stages.{judged}
 use Rattle.calls.proofs.Judging.{verdict-refused}

@@ -1,7 +1,7 @@
 -- What code holds while events are taken stands for what was taken: states, variables, output room and counts.
 -- Assumes nothing.
-use mathlib.Core.Path.{_≡_, refl, sym, ap, subst, _∙_}
-use mathlib.Core.List.{List, [], _∷_, _++_, append-nil}
+use mathlib.Core.Path.{_≡_, sym, ap, subst, _∙_}
+use mathlib.Core.List.{List, [], append-nil}
 use mathlib.Core.Option.{none}
 use Prim.Native.Nat.{ℕ, suc, _+_, _*_, _/_, _≤_, _<_, max}
 use native.Mathlib.Omega.{arith}
@@ -13,7 +13,7 @@ use Rattle.rules.specs.Stages.{firstRefusal}
 use Rattle.rules.specs.Limits.{mostName, mostRecords, recordBytes}
 use Rattle.rules.specs.Table.{programOf, recordsOf}
 use Rattle.rules.specs.Check.{announced, tableStages}
-use Rattle.rules.specs.Memory.{Memory, Output, does, effect, raises}
+use Rattle.rules.specs.Memory.{Memory, Output, does, effect}
 use Rattle.rules.specs.Run.{Ran, reaction, start}
 use Rattle.rules.specs.Calls.{Lent, Sent, Taken, Totals, joinRun, noneTaken, takeEvent}
 use Rattle.theory.specs.Logic.{both-right}

@@ -12,8 +12,7 @@ use borrow.Author.Tests.{eq-eqb, ne-eqb, not-true, not-false}
 use Rattle.rules.specs.Stages.{Refusal, Stage, firstRefusal, orElse, refusal, stage, unless}
 use Rattle.rules.specs.Limits.{recordBytes}
 use Rattle.rules.specs.Limits as Rules
-use Rattle.rules.specs.Table.{recordsOf}
-use Rattle.rules.specs.Check.{Verdict, accepted, announced, check, refused, tableStages, verdict}
+use Rattle.rules.specs.Check.{accepted, announced, check, refused, tableStages, verdict}
 use Rattle.rules.specs.Marks.{marksStages}
 use Rattle.rules.specs.Calls.{roomStage, varsStage}
 use Rattle.theory.specs.Logic.{clash}

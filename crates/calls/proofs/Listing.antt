@@ -2,7 +2,7 @@
 -- Assumes nothing.
 use mathlib.Core.Path.{_≡_, refl, sym, ap, subst, _∙_}
 use mathlib.Core.Bool.{Bool, true, false, _&&_}
-use mathlib.Core.List.{List, [], _∷_, _++_}
+use mathlib.Core.List.{List, [], _∷_}
 use mathlib.Core.Option.{Option, none, some}
 use Prim.Native.Nat.{ℕ, zero, suc, _+_, _-_, _*_, _/_, _≤_, _<_, max}
 use native.Mathlib.Numerals.{add-one}
@@ -11,10 +11,10 @@ use lib.Dec.{leb, ltb}
 use lib.IntN.{ℤ}
 use lib.ListN.{length, getD, set}
 use borrow.Author.Tests.{leb-false, leb-true, le-ltb, lt-ltb, ltb-false, ltb-true}
-use Rattle.rules.specs.Stages.{Refusal, firstRefusal, if_then_else_, option, refusal, stage}
+use Rattle.rules.specs.Stages.{Refusal, firstRefusal, option, refusal, stage}
 use Rattle.rules.specs.Limits.{listTooLong, mostListBytes, mostRecords, recordBytes, topTotal}
-use Rattle.rules.specs.Table.{kindAt, numberAt, recordsOf}
-use Rattle.rules.specs.Check.{announced, tableStages}
+use Rattle.rules.specs.Table.{kindAt, numberAt}
+use Rattle.rules.specs.Check.{announced}
 use Rattle.rules.specs.Calls.{Lent, Outcome, Sent, Taken, answers, noneTaken, onto, takeEvent}
 use Rattle.rules.specs.Lists.{listCall, listFails, sentFrom, takeEvents}
 use Rattle.theory.specs.Logic.{clash}

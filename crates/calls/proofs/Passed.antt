@@ -1,34 +1,25 @@
 -- What a table has that passes stages 1 to 7.
 -- Assumes nothing.
-use mathlib.Core.Path.{_≡_, refl, sym, ap, subst, _∙_}
-use mathlib.Core.Bool.{Bool, true, false, not}
+use mathlib.Core.Path.{_≡_, refl, ap}
 use mathlib.Core.List.{List, [], _∷_}
 use mathlib.Core.Option.{none}
-use Prim.Native.Nat.{ℕ, suc, _+_, _*_, _≤_, _<_}
+use Prim.Native.Nat.{ℕ, _+_, _*_, _≤_}
 use native.Mathlib.Omega.{arith}
 use lib.ListN.{length}
-use Rattle.rules.specs.Stages.{Stage, failing, firstRefusal, if_then_else_, stage, unless}
+use Rattle.rules.specs.Stages.{Stage, failing, firstRefusal, stage, unless}
 use Rattle.rules.specs.Limits.{mostEmitted, mostLoops, mostRecords}
 use Rattle.rules.specs.Table.{inKindsTable, programOf, recordsOf, shapeRight}
-use Rattle.rules.specs.Check.{Visit, announced, count, deepLoop, deepest, endlessLoop, goodLength, hits, isKind, looseBreak, notPlain, nothingAround, tableStages, visitsOf}
+use Rattle.rules.specs.Check.{announced, count, deepLoop, deepest, endlessLoop, goodLength, hits, isKind, looseBreak, notPlain, nothingAround, tableStages, visitsOf}
 use Rattle.rules.proofs.Products.{product-bound}
 use Rattle.theory.specs.Stages.{next}
 use Rattle.theory.specs.Walk.{walk-size}
-use Rattle.theory.specs.Accepted.{Accepted, accepted-check, accepts}
+use Rattle.theory.specs.Accepted.{accepted-check, accepts}
 use Rattle.table.specs.Places.{Place, treeOf}
 use Rattle.table.specs.Found.{firstOf}
 use Rattle.table.proofs.Passed as Table
 use Rattle.acceptance.proofs.Refusals.{few-loops}
+use Rattle.acceptance.proofs.Tallies.{count-most}
 use Rattle.engine.specs.Walks.{Spot, mostRounds}
-
-hits-most : (f : Visit → Bool) (vs : List Visit) → count f vs ≤ length vs
-unfolding hits
-hits-most f [] = omega arith
-hits-most f (v ∷ vs) = go (hits-most f vs) (f v)
-  where
-    go : count f vs ≤ length vs → (x : Bool) → length (if x then v .place ∷ hits f vs else hits f vs) ≤ suc (length vs)
-    go h true = omega arith
-    go h false = omega arith
 
 module _ (b : List ℕ) (e : firstRefusal (tableStages b) ≡ none) where
   abbrev s2 : Stage
@@ -79,7 +70,7 @@ module _ (b : List ℕ) (e : firstRefusal (tableStages b) ≡ none) where
 
   emitted-most : announced b .emitted ≤ 2304
   unfolding announced
-  emitted-most = product-bound (count (isKind 10) (visitsOf b)) (deepest (visitsOf b) + 1) 256 9 (omega (arith, hits-most (isKind 10) (visitsOf b), visits-most)) (omega (arith, shallow))
+  emitted-most = product-bound (count (isKind 10) (visitsOf b)) (deepest (visitsOf b) + 1) 256 9 (omega (arith, count-most (isKind 10) (visitsOf b), visits-most)) (omega (arith, shallow))
 
   -- so the announced numbers are small, and every count of a list fits 64 bits
   pub passed-emitted : announced b .emitted ≤ mostRounds

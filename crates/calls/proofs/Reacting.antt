@@ -1,26 +1,25 @@
 -- The start and the reaction of a table whose stages pass: what code holds afterwards stands for the outcome of the rules.
 -- Assumes nothing.
-use mathlib.Core.Path.{_≡_, refl, sym, ap, subst, _∙_}
+use mathlib.Core.Path.{_≡_, refl, sym, subst}
 use mathlib.Core.List.{List, [], _∷_, _++_}
 use mathlib.Core.Option.{none}
-use Prim.Native.Nat.{ℕ, _+_, _*_, _/_, _≤_, _<_, max}
+use Prim.Native.Nat.{ℕ, _+_, _/_, _≤_, _<_, max}
 use native.Mathlib.Omega.{arith}
-use lib.Dec.{eqb, leb, eqb→eq, leb→le}
+use lib.Dec.{eqb, eqb→eq}
 use lib.IntN.{ℤ, pos}
 use lib.ListN.{length, getD, set, drop, length-append, length-drop, List·getD-append}
-use Rattle.rules.specs.Stages.{Stage, firstRefusal, unless}
+use Rattle.rules.specs.Stages.{Stage, firstRefusal}
 use Rattle.rules.specs.Limits.{mostRecords, recordBytes, topTotal, variables}
 use Rattle.rules.specs.Table.{recordsOf}
 use Rattle.rules.specs.Check.{announced, tableStages}
 use Rattle.rules.specs.Marks.{lengthStage, marksStages}
 use Rattle.rules.specs.Run.{start}
-use Rattle.rules.specs.Calls.{Lent, Outcome, Taken, answers, eventStage, joinRun, noneTaken, onto, reactCall, roomStage, startCall, takeEvent, tested, varsStage}
+use Rattle.rules.specs.Calls.{Lent, Outcome, answers, eventStage, joinRun, noneTaken, onto, reactCall, roomStage, startCall, takeEvent, varsStage}
 use Rattle.theory.specs.Stages.{first-append, next, unless-true}
 use Rattle.theory.specs.Calls.{enough-vars, none-held, roomy}
 use Rattle.theory.specs.Round.{begin, react}
 use Rattle.table.specs.Places.{treeOf}
-use Rattle.memory.specs.Arrays.{Arrays, arrays}
-use Rattle.memory.specs.Stands.{Stands}
+use Rattle.memory.specs.Arrays.{arrays}
 use Rattle.memory.proofs.Standing.{stands-start}
 use Rattle.engine.specs.Walks.{arrayOps, roundOf}
 use Rattle.engine.specs.declared.Rounded.{Rounded}

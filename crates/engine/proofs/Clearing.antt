@@ -3,14 +3,14 @@
 use mathlib.Core.Path.{_≡_, refl, ap}
 use mathlib.Core.Bool.{Bool, true, false}
 use mathlib.Core.List.{List}
-use mathlib.Core.Logic.{_⊎_, inl, inr}
+use mathlib.Core.Logic.{inl, inr}
 use Prim.Native.Nat.{ℕ, _+_}
 use lib.Dec.{eqb}
 use lib.ListN.{getD, set}
 use Rattle.rules.specs.Stages.{if_then_else_}
-use Rattle.rules.specs.Tree.{Tree, Act, assign, increase, copy, subtract, compare, divide, output, Source, input, internal, Par, and, or, actKind}
+use Rattle.rules.specs.Tree.{Tree, Act, assign, increase, copy, subtract, compare, divide, output, input, internal, and, or, actKind}
 use Rattle.rules.specs.Table.{kindAt, nameAt, numberAt, secondAt}
-use Rattle.theory.specs.State.{Swept, swept, settle, sweep, sweepOwn, sweepEither, sweepHeld, sweepBoth}
+use Rattle.theory.specs.State.{swept, settle, sweep, sweepOwn, sweepEither, sweepHeld, sweepBoth}
 use Rattle.table.specs.Places.{Place, treeOf, Node, aNop, anAct, anAwait, anEmit, aBreak, anIf, aSeq, aLoop, anEvery, aPar, aFin}
 use Rattle.table.proofs.Trees.{tree-kind, node-at}
 use Rattle.memory.specs.Arrays.{Arrays, tick, acts, kindActs, isNonzero}

@@ -7,7 +7,7 @@ use Prim.Native.Nat.{ℕ, _+_, _≤_, _<_}
 use native.Mathlib.Omega.{arith}
 use lib.ListN.{set}
 use Rattle.rules.specs.Stages.{if_then_else_}
-use Rattle.rules.specs.Tree.{Tree, Act, assign, increase, copy, subtract, compare, divide, output, Source, input, internal, Par, and, or, actKind}
+use Rattle.rules.specs.Tree.{Tree, Act, assign, increase, copy, subtract, compare, divide, output, input, internal, Par, and, or, actKind}
 use Rattle.rules.specs.Table.{kindAt, nameAt, secondAt}
 use Rattle.theory.specs.State.{How, ended, broke, waiting, ringing, Walk, walk, Then, exec, execSeq, execLoop, execPar, thenRight}
 use Rattle.table.specs.Places.{Place, treeOf, Node, aNop, anAct, anAwait, anEmit, aBreak, anIf, aSeq, aLoop, anEvery, aPar, aFin}

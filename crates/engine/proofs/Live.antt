@@ -1,7 +1,7 @@
 -- A tree that has begun, at a place, by the kind of its record.
 -- Assumes nothing.
 use mathlib.Core.Path.{_≡_, refl, ap}
-use mathlib.Core.Bool.{Bool, true, false}
+use mathlib.Core.Bool.{Bool}
 use mathlib.Core.List.{List}
 use Prim.Native.Nat.{ℕ, _+_}
 use native.Mathlib.Omega.{arith}
@@ -9,9 +9,9 @@ use lib.Dec.{eqb, T, leb}
 use lib.ListN.{getD}
 use borrow.Author.Tests.{eq-eqb}
 use Rattle.rules.specs.Stages.{if_then_else_}
-use Rattle.rules.specs.Tree.{Tree, Source, input, internal, Par, and, or, bySource}
+use Rattle.rules.specs.Tree.{Tree, Source, input, internal, and, or, bySource}
 use Rattle.rules.specs.Table.{kindAt, secondAt}
-use Rattle.theory.specs.State.{How, idle, Walk, walk, exec, execLoop, resume, resumeAwait, resumeFin, resumeEvery, resumeEmit, resumeIf, resumeSeq, resumeLoop, rightAlone, resumeBoth, resumeHeld}
+use Rattle.theory.specs.State.{idle, Walk, walk, exec, execLoop, resume, resumeAwait, resumeFin, resumeEvery, resumeEmit, resumeIf, resumeSeq, resumeLoop, rightAlone, resumeBoth, resumeHeld}
 use Rattle.table.specs.Kinds.{arity, rowOf, childrenOf}
 use Rattle.table.specs.Places.{Place, treeOf, Node, aNop, anAct, anAwait, anEmit, aBreak, anIf, aSeq, aLoop, anEvery, aPar, aFin}
 use Rattle.table.proofs.Trees.{tree-kind, node-at}

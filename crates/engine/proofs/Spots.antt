@@ -3,11 +3,11 @@
 use mathlib.Core.Path.{_≡_, refl}
 use mathlib.Core.Bool.{Bool, true, false}
 use mathlib.Core.List.{List}
-use mathlib.Core.Logic.{_⊎_, inl, inr}
+use mathlib.Core.Logic.{inl, inr}
 use Prim.Native.Nat.{ℕ, _+_, _*_, _≤_, _<_}
 use native.Mathlib.Omega.{arith}
 use lib.Dec.{T, leb}
-use Rattle.rules.specs.Tree.{Tree, par}
+use Rattle.rules.specs.Tree.{par}
 use Rattle.rules.specs.Table.{kindAt, spanAt, secondAt}
 use Rattle.table.specs.Kinds.{arity, rowOf, childrenOf}
 use Rattle.table.specs.Places.{Place, treeOf}

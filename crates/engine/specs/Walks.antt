@@ -3,16 +3,16 @@ use mathlib.Core.Path.{_≡_}
 use mathlib.Core.Bool.{Bool, true, false, not, _||_, _&&_}
 use mathlib.Core.List.{List}
 use mathlib.Core.Logic.{_⊎_}
-use Prim.Native.Nat.{ℕ, _+_, _≤_}
+use Prim.Native.Nat.{ℕ, _≤_}
 use lib.Dec.{eqb, ltb}
 use lib.IntN.{ℤ}
 use Rattle.rules.specs.Stages.{if_then_else_}
 use Rattle.rules.specs.Limits.{mostRecords}
-use Rattle.rules.specs.Tree.{Source, input, internal, Par, and, or, bySource, byPar}
+use Rattle.rules.specs.Tree.{Source, input, internal, Par, and, or, bySource}
 use Rattle.rules.specs.Table.{nameAt, numberAt, recordsOf}
 use Rattle.rules.specs.Step.{Event}
 use Rattle.theory.specs.State.{Ops, How, idle, ended, broke, waiting, ringing, Walk, walk, Then, Swept, tickIf, execLoop, rightAlone, resumeEmit}
-use Rattle.theory.specs.Round.{Round, round, inputEvent, internalEvent}
+use Rattle.theory.specs.Round.{Round, round}
 use Rattle.table.specs.Places.{Place}
 use Rattle.memory.specs.Arrays.{Arrays, arrays, tick, acts, kindActs, isNonzero}
 use Rattle.engine.specs.declared.How as code
