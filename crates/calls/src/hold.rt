@@ -9,6 +9,7 @@ ghost use Rattle.rules.specs.Calls.{onto};
 ghost use Rattle.calls.specs.Answers.{answerRefused};
 ghost use Rattle.calls.specs.Holding.{Bytes, Stored};
 use crate::Answer;
+use rules::Limits;
 
 fn wide(mark: u8) -> u32
     ensures { λ r. ⌜ r ≡ mark ⌝ }
@@ -17,7 +18,7 @@ fn wide(mark: u8) -> u32
 }
 
 // One state for each mark; those behind stay.
-pub fn load_marks(marks: &[u8], st: &mut [u32; 256])
+pub fn load_marks(marks: &[u8], st: &mut [u32; Limits::RECORDS])
     requires { ⌜ length (now marks) ≤ mostRecords ⌝ }
     requires { ⌜ length (now st) ≡ mostRecords ⌝ }
     ensures { λ _. ⌜ now (st .exit) ≡ onto (now (marks .entry)) (now (st .entry)) ⌝ }
@@ -29,20 +30,20 @@ pub fn load_marks(marks: &[u8], st: &mut [u32; 256])
     }
 }
 
-pub fn load_vars(vars: &[i32], held: &mut [i32; 64])
+pub fn load_vars(vars: &[i32], held: &mut [i32; Limits::VARIABLES])
     requires { ⌜ length (now vars) ≡ variables ⌝ }
     requires { ⌜ length (now held) ≡ variables ⌝ }
     ensures { λ _. ⌜ now (held .exit) ≡ now (vars .entry) ⌝ }
 {
     let mut i: usize = 0;
-    while i < 64 {
+    while i < Limits::VARIABLES {
         held[i] = vars[i];
         i += 1;
     }
 }
 
 // The states at rest are the marks.
-pub fn store_marks(st: &[u32; 256], marks: &mut [u8])
+pub fn store_marks(st: &[u32; Limits::RECORDS], marks: &mut [u8])
     requires { ⌜ length (now marks) ≤ mostRecords ⌝ }
     requires { ⌜ length (now st) ≡ mostRecords ⌝ }
     requires { ⌜ Bytes (length (now marks)) (now st) ⌝ }
@@ -56,13 +57,13 @@ pub fn store_marks(st: &[u32; 256], marks: &mut [u8])
     }
 }
 
-pub fn store_vars(held: &[i32; 64], vars: &mut [i32])
+pub fn store_vars(held: &[i32; Limits::VARIABLES], vars: &mut [i32])
     requires { ⌜ length (now vars) ≡ variables ⌝ }
     requires { ⌜ length (now held) ≡ variables ⌝ }
     ensures { λ _. ⌜ now (vars .exit) ≡ now (held .entry) ⌝ }
 {
     let mut i: usize = 0;
-    while i < 64 {
+    while i < Limits::VARIABLES {
         vars[i] = held[i];
         i += 1;
     }
@@ -103,8 +104,8 @@ pub fn finish(
     place: u32,
     emitted: u64,
     highest: u32,
-    st: &[u32; 256],
-    held: &[i32; 64],
+    st: &[u32; Limits::RECORDS],
+    held: &[i32; Limits::VARIABLES],
     counts: &[u64; 2],
     marks: &mut [u8],
     vars: &mut [i32],

@@ -53,8 +53,8 @@ fn take_event(
     steps: u32,
     events: &[u8],
     i: usize,
-    st: &mut [u32; 256],
-    held: &mut [i32; 64],
+    st: &mut [u32; Limits::RECORDS],
+    held: &mut [i32; Limits::VARIABLES],
     out: &mut [u8],
     counts: &mut [u64; 2],
 ) -> Rounded
@@ -98,8 +98,8 @@ fn run_tested(
     requires { ⌜ announcedOf announced ≡ Rules.announced (now table) ⌝ }
     ensures { λ r. ⌜ Ran (listCall (now (table .entry)) (lent (now (marks .entry)) (now (vars .entry)) (now (out .entry))) (now (events .entry))) r (now (marks .exit)) (now (vars .exit)) (now (out .exit)) ⌝ }
 {
-    let mut st: [u32; 256] = [0; 256];
-    let mut held: [i32; 64] = [0; 64];
+    let mut st: [u32; Limits::RECORDS] = [0; Limits::RECORDS];
+    let mut held: [i32; Limits::VARIABLES] = [0; Limits::VARIABLES];
     let mut counts: [u64; 2] = [0; 2];
     load_marks(marks, &mut st);
     load_vars(vars, &mut held);

@@ -14,6 +14,7 @@ use crate::hold::refused;
 use crate::stages::react_stages;
 use crate::stages::start_stages;
 use acceptance::Checked;
+use rules::Limits;
 
 // A start whose stages pass.
 fn start_tested(
@@ -27,8 +28,8 @@ fn start_tested(
     requires { ⌜ steps ≡ announced (now table) .steps ⌝ }
     ensures { λ r. ⌜ Uncounted (startCall (now (table .entry)) (lent (now (marks .entry)) (now (vars .entry)) (now (out .entry)))) r (now (marks .exit)) (now (vars .exit)) (now (out .exit)) ⌝ }
 {
-    let mut st: [u32; 256] = [0; 256];
-    let mut held: [i32; 64] = [0; 64];
+    let mut st: [u32; Limits::RECORDS] = [0; Limits::RECORDS];
+    let mut held: [i32; Limits::VARIABLES] = [0; Limits::VARIABLES];
     let mut counts: [u64; 2] = [0; 2];
     load_vars(vars, &mut held);
     held[0] = 0;
@@ -70,8 +71,8 @@ fn react_tested(
     requires { ⌜ steps ≡ announced (now table) .steps ⌝ }
     ensures { λ r. ⌜ Uncounted (reactCall (now (table .entry)) (lent (now (marks .entry)) (now (vars .entry)) (now (out .entry))) (sentOf event value)) r (now (marks .exit)) (now (vars .exit)) (now (out .exit)) ⌝ }
 {
-    let mut st: [u32; 256] = [0; 256];
-    let mut held: [i32; 64] = [0; 64];
+    let mut st: [u32; Limits::RECORDS] = [0; Limits::RECORDS];
+    let mut held: [i32; Limits::VARIABLES] = [0; Limits::VARIABLES];
     let mut counts: [u64; 2] = [0; 2];
     load_marks(marks, &mut st);
     load_vars(vars, &mut held);

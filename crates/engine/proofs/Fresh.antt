@@ -1,6 +1,6 @@
 -- A fresh tree at a place, by the kind of its record; and runs that differ in their memory.
 -- Assumes nothing.
-use mathlib.Core.Path.{_≡_, refl, ap, _∙_}
+use mathlib.Core.Path.{_≡_, refl, ap, sym, _∙_}
 use mathlib.Core.Bool.{Bool, true, false}
 use mathlib.Core.List.{List}
 use Prim.Native.Nat.{ℕ, _+_, _≤_, _<_}
@@ -67,9 +67,10 @@ module _ (b : List ℕ) (i : ℕ) (p : Place b i) (l : List ℕ) (m : Arrays) (n
   unfolding exec
   exec-loop e = ap (λ (x : Tree). exec arrayOps n x l m) (tree-kind b i p 14 e)
 
-  pub exec-par : (c : Bool) → kindAt b i ≡ parKind c → exec arrayOps n (treeOf b i) l m ≡ (let r = exec arrayOps n (treeOf b (i + 1)) l (tick m) in execPar arrayOps n i (parOf c) (treeOf b (i + 1)) (r .how) r (exec arrayOps n (treeOf b (secondAt b i))))
+  -- r is the run of the left
+  pub exec-par : (c : Bool) → kindAt b i ≡ parKind c → (r : Walk Arrays) → r ≡ exec arrayOps n (treeOf b (i + 1)) l (tick m) → exec arrayOps n (treeOf b i) l m ≡ execPar arrayOps n i (parOf c) (treeOf b (i + 1)) (r .how) r (exec arrayOps n (treeOf b (secondAt b i)))
   unfolding exec
-  exec-par c e = ap (λ (x : Tree). exec arrayOps n x l m) (tree-par b i p c e)
+  exec-par c e r q = ap (λ (x : Tree). exec arrayOps n x l m) (tree-par b i p c e) ∙ ap (λ (x : Walk Arrays). execPar arrayOps n i (parOf c) (treeOf b (i + 1)) (x .how) x (exec arrayOps n (treeOf b (secondAt b i)))) (sym q)
 
   pub exec-rest : 8 ≤ kindAt b i → (kindAt b i ≡ 10 → ⊥) → (kindAt b i ≡ 11 → ⊥) → (kindAt b i ≡ 12 → ⊥) → (kindAt b i ≡ 13 → ⊥) → (kindAt b i ≡ 14 → ⊥) → (kindAt b i ≡ 17 → ⊥) → (kindAt b i ≡ 18 → ⊥) → exec arrayOps n (treeOf b i) l m ≡ walk waiting (set l i 1) m
   unfolding exec

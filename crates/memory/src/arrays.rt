@@ -32,19 +32,19 @@ pub fn tick(counts: &mut [u64; 2])
 }
 
 // Variable v; 0 where there is none.
-fn variable(vars: &[i32; 64], v: usize) -> i32
+fn variable(vars: &[i32; Limits::VARIABLES], v: usize) -> i32
     ensures { λ r. ⌜ r ≡ variable (now (vars .entry)) v ⌝ }
 {
     if v < Limits::VARIABLES { vars[v] } else { 0 }
 }
 
-pub fn is_nonzero(vars: &[i32; 64], v: usize) -> bool
+pub fn is_nonzero(vars: &[i32; Limits::VARIABLES], v: usize) -> bool
     ensures { λ r. ⌜ Tests r (now (vars .entry)) v ⌝ }
 {
     variable(vars, v) != 0
 }
 
-fn set_variable(vars: &mut [i32; 64], v: usize, z: i32)
+fn set_variable(vars: &mut [i32; Limits::VARIABLES], v: usize, z: i32)
     ensures { λ _. ⌜ now (vars .exit) ≡ setVariable (now (vars .entry)) v z ⌝ }
 {
     if v < Limits::VARIABLES {
@@ -93,7 +93,7 @@ fn put_output(n: u64, name: usize, value: i32, out: &mut [u8])
 }
 
 // What kinds 1 to 6 work with: a number, or the variable that it names.
-fn operand(kind: u8, number: i32, vars: &[i32; 64]) -> i32
+fn operand(kind: u8, number: i32, vars: &[i32; Limits::VARIABLES]) -> i32
     ensures { λ r. ⌜ r ≡ operand kind number (now (vars .entry)) ⌝ }
 {
     if kind < 3 {
@@ -121,7 +121,7 @@ pub fn act(
     kind: u8,
     name: usize,
     number: i32,
-    vars: &mut [i32; 64],
+    vars: &mut [i32; Limits::VARIABLES],
     out: &mut [u8],
     counts: &mut [u64; 2],
 )

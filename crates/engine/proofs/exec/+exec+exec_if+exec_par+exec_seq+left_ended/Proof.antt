@@ -131,19 +131,19 @@ exec-if-returns-2 : (t : ℕ) → exec-if-lts.Need-returns-2 (claims-exec-if t) 
 exec-if-returns-2 t c = rw (exec-if _ _ ((c .before .before .before .before .before .before .before .before .before .before .before .before .before .before .before .before .pre .1 .0) .place) _ _ _ (c .before .before .before .before .before .before .before .before .before .before .before .before .before .before .before .before .pre .1 .1), ← c .before .before .before .before .before .before .before .before .before .before .before .before .before .name-at .ensures .0, ← c .before .before .before .before .before .before .before .before .before .before .before .is-nonzero .ensures _ _, ← c .before .before .before .before .before .before .before .before .before .tick .ensures _ _, c .before .before .before .before .before .before .before .before .if1 .left, ← c .before .before .before .before .before .before .before .second-at .ensures) (c .before .before .exec2 .ensures)
 
 exec-par-returns : (t : ℕ) → exec-par-lts.Need-returns (claims-exec-par t) (exec-par-at t) exec-par.Post
-exec-par-returns t c = rw (exec-par _ _ ((c .before .before .before .before .before .before .before .before .before .before .before .before .before .before .pre .1 .0) .place) _ _ _ (c .before .before .before .before .before .before .before .before .before .before .before .before .before .before .args .and) (c .before .before .before .before .before .before .before .before .before .before .before .before .before .before .pre .1 .1), ← c .before .before .before .before .before .before .before .before .before .tick .ensures _ _, ← c .before .before .before .before .exec .ensures, c .enum-told .given .1)
+exec-par-returns t c = rw (exec-par _ _ ((c .before .before .before .before .before .before .before .before .before .before .before .before .before .before .pre .1 .0) .place) _ _ _ (c .before .before .before .before .before .before .before .before .before .before .before .before .before .before .args .and) (c .before .before .before .before .before .before .before .before .before .before .before .before .before .before .pre .1 .1) _ (c .before .before .before .before .exec .ensures ∙ exec-memory _ _ _ (c .before .before .before .before .before .before .before .before .before .tick .ensures _ _)), c .enum-told .given .1)
 
 exec-par-returns-2 : (t : ℕ) → exec-par-lts.Need-returns-2 (claims-exec-par t) (exec-par-at t) exec-par.Post
-exec-par-returns-2 t c = rw (exec-par _ _ ((c .before .before .before .before .before .before .before .before .before .before .before .before .before .before .before .before .before .before .before .before .before .pre .1 .0) .place) _ _ _ (c .before .before .before .before .before .before .before .before .before .before .before .before .before .before .before .before .before .before .before .before .before .args .and) (c .before .before .before .before .before .before .before .before .before .before .before .before .before .before .before .before .before .before .before .before .before .pre .1 .1), ← c .before .before .before .before .before .before .before .before .before .before .before .before .before .before .before .before .tick .ensures _ _, ← c .before .before .before .before .before .before .before .before .before .before .before .exec .ensures) (rw (c .before .before .before .before .before .before .before .enum-told2 .given .1, ← c .before .before .before .before .before .before .before .before .before .before .before .before .before .before .before .before .before .before .second-at .ensures) (c .before .before .left-ended .ensures ∙ exec-par-ended (c .before .before .before .before .before .before .before .before .before .before .before .before .before .before .before .before .before .before .before .before .before .args .and) _ _ _ _ _ _))
+exec-par-returns-2 t c = rw (exec-par _ _ ((c .before .before .before .before .before .before .before .before .before .before .before .before .before .before .before .before .before .before .before .before .before .pre .1 .0) .place) _ _ _ (c .before .before .before .before .before .before .before .before .before .before .before .before .before .before .before .before .before .before .before .before .before .args .and) (c .before .before .before .before .before .before .before .before .before .before .before .before .before .before .before .before .before .before .before .before .before .pre .1 .1) _ (c .before .before .before .before .before .before .before .before .before .before .before .exec .ensures ∙ exec-memory _ _ _ (c .before .before .before .before .before .before .before .before .before .before .before .before .before .before .before .before .tick .ensures _ _))) (rw (c .before .before .before .before .before .before .before .enum-told2 .given .1, ← c .before .before .before .before .before .before .before .before .before .before .before .before .before .before .before .before .before .before .second-at .ensures) (c .before .before .left-ended .ensures ∙ exec-par-ended (c .before .before .before .before .before .before .before .before .before .before .before .before .before .before .before .before .before .before .before .before .before .args .and) _ _ _ _ _ _))
 
 exec-par-returns-3 : (t : ℕ) → exec-par-lts.Need-returns-3 (claims-exec-par t) (exec-par-at t) exec-par.Post
-exec-par-returns-3 t c = rw (exec-par _ _ ((c .before .before .before .before .before .before .before .before .before .before .before .before .before .before .before .before .before .before .pre .1 .0) .place) _ _ _ (c .before .before .before .before .before .before .before .before .before .before .before .before .before .before .before .before .before .before .args .and) (c .before .before .before .before .before .before .before .before .before .before .before .before .before .before .before .before .before .before .pre .1 .1), ← c .before .before .before .before .before .before .before .before .before .before .before .before .before .tick .ensures _ _, ← c .before .before .before .before .before .before .before .before .exec .ensures, c .before .before .before .before .enum-told3 .given .1) (walk-memory (two-ticks _ _ (c .before .before .tick2 .ensures _ _) (c .tick3 .ensures _ _)))
+exec-par-returns-3 t c = rw (exec-par _ _ ((c .before .before .before .before .before .before .before .before .before .before .before .before .before .before .before .before .before .before .pre .1 .0) .place) _ _ _ (c .before .before .before .before .before .before .before .before .before .before .before .before .before .before .before .before .before .before .args .and) (c .before .before .before .before .before .before .before .before .before .before .before .before .before .before .before .before .before .before .pre .1 .1) _ (c .before .before .before .before .before .before .before .before .exec .ensures ∙ exec-memory _ _ _ (c .before .before .before .before .before .before .before .before .before .before .before .before .before .tick .ensures _ _)), c .before .before .before .before .enum-told3 .given .1) (walk-memory (two-ticks _ _ (c .before .before .tick2 .ensures _ _) (c .tick3 .ensures _ _)))
 
 exec-par-returns-4 : (t : ℕ) → exec-par-lts.Need-returns-4 (claims-exec-par t) (exec-par-at t) exec-par.Post
-exec-par-returns-4 t c = rw (exec-par _ _ ((c .before .before .before .before .before .before .before .before .before .before .before .before .before .before .before .before .before .before .before .before .before .before .before .before .before .before .before .before .before .before .before .before .pre .1 .0) .place) _ _ _ (c .before .before .before .before .before .before .before .before .before .before .before .before .before .before .before .before .before .before .before .before .before .before .before .before .before .before .before .before .before .before .before .before .args .and) (c .before .before .before .before .before .before .before .before .before .before .before .before .before .before .before .before .before .before .before .before .before .before .before .before .before .before .before .before .before .before .before .before .pre .1 .1), ← c .before .before .before .before .before .before .before .before .before .before .before .before .before .before .before .before .before .before .before .before .before .before .before .before .before .before .before .tick .ensures _ _, ← c .before .before .before .before .before .before .before .before .before .before .before .before .before .before .before .before .before .before .before .before .before .before .exec .ensures) (rw (c .before .before .before .before .before .before .before .before .before .before .before .before .before .before .before .before .before .before .enum-told4 .given .1, ← c .before .before .before .before .before .before .before .before .before .before .before .before .before .before .before .before .before .before .before .before .before .before .before .before .before .before .before .before .before .second-at .ensures) (c .before .before .after-right .ensures ∙ then-right _ _ (c .before .before .before .before .before .before .before .before .before .exec2 .ensures ∙ exec-memory _ _ _ (two-ticks _ _ (c .before .before .before .before .before .before .before .before .before .before .before .before .before .before .before .before .tick4 .ensures _ _) (c .before .before .before .before .before .before .before .before .before .before .before .before .before .before .tick5 .ensures _ _)))))
+exec-par-returns-4 t c = rw (exec-par _ _ ((c .before .before .before .before .before .before .before .before .before .before .before .before .before .before .before .before .before .before .before .before .before .before .before .before .before .before .before .before .before .before .before .before .pre .1 .0) .place) _ _ _ (c .before .before .before .before .before .before .before .before .before .before .before .before .before .before .before .before .before .before .before .before .before .before .before .before .before .before .before .before .before .before .before .before .args .and) (c .before .before .before .before .before .before .before .before .before .before .before .before .before .before .before .before .before .before .before .before .before .before .before .before .before .before .before .before .before .before .before .before .pre .1 .1) _ (c .before .before .before .before .before .before .before .before .before .before .before .before .before .before .before .before .before .before .before .before .before .before .exec .ensures ∙ exec-memory _ _ _ (c .before .before .before .before .before .before .before .before .before .before .before .before .before .before .before .before .before .before .before .before .before .before .before .before .before .before .before .tick .ensures _ _))) (rw (c .before .before .before .before .before .before .before .before .before .before .before .before .before .before .before .before .before .before .enum-told4 .given .1, ← c .before .before .before .before .before .before .before .before .before .before .before .before .before .before .before .before .before .before .before .before .before .before .before .before .before .before .before .before .before .second-at .ensures) (c .before .before .after-right .ensures ∙ then-right _ _ (c .before .before .before .before .before .before .before .before .before .exec2 .ensures ∙ exec-memory _ _ _ (two-ticks _ _ (c .before .before .before .before .before .before .before .before .before .before .before .before .before .before .before .before .tick4 .ensures _ _) (c .before .before .before .before .before .before .before .before .before .before .before .before .before .before .tick5 .ensures _ _)))))
 
 exec-par-returns-5 : (t : ℕ) → exec-par-lts.Need-returns-5 (claims-exec-par t) (exec-par-at t) exec-par.Post
-exec-par-returns-5 t c = rw (exec-par _ _ ((c .before .before .before .before .before .before .before .before .before .before .before .before .before .before .before .pre .1 .0) .place) _ _ _ (c .before .before .before .before .before .before .before .before .before .before .before .before .before .before .before .args .and) (c .before .before .before .before .before .before .before .before .before .before .before .before .before .before .before .pre .1 .1), ← c .before .before .before .before .before .before .before .before .before .before .tick .ensures _ _, ← c .before .before .before .before .before .exec .ensures, c .before .left .given .1)
+exec-par-returns-5 t c = rw (exec-par _ _ ((c .before .before .before .before .before .before .before .before .before .before .before .before .before .before .before .pre .1 .0) .place) _ _ _ (c .before .before .before .before .before .before .before .before .before .before .before .before .before .before .before .args .and) (c .before .before .before .before .before .before .before .before .before .before .before .before .before .before .before .pre .1 .1) _ (c .before .before .before .before .before .exec .ensures ∙ exec-memory _ _ _ (c .before .before .before .before .before .before .before .before .before .before .tick .ensures _ _)), c .before .left .given .1)
 
 exec-seq-returns : (t : ℕ) → exec-seq-lts.Need-returns (claims-exec-seq t) (exec-seq-at t) exec-seq.Post
 exec-seq-returns t c = rw (exec-seq _ _ ((c .before .before .before .before .before .before .before .before .before .before .before .pre .1 .0) .place) _ _ _ (c .before .before .before .before .before .before .before .before .before .before .before .pre .1 .1), ← c .before .before .before .before .exec .ensures, c .enum-told .given .1)
