@@ -106,25 +106,17 @@ fn run_tested(
     let mut emitted: u64 = 0;
     let mut highest: u32 = 0;
     let mut i: usize = 0;
+    let most = announced.steps;
     while goes_on(events, i, out, counts[1], announced.outputs) {
-        let round = take_event(
-            table,
-            announced.steps,
-            events,
-            i,
-            &mut st,
-            &mut held,
-            out,
-            &mut counts,
-        );
+        let round = take_event(table, most, events, i, &mut st, &mut held, out, &mut counts);
         emitted += round.emitted;
         highest = higher(highest, round.highest);
         i += 1;
     }
-    let stop = stop_at(events, i);
+    let end = stop_at(events, i);
     let answer = finish(
-        stop.number,
-        stop.place,
+        end.number,
+        end.place,
         emitted,
         highest,
         &st,
@@ -133,10 +125,8 @@ fn run_tested(
         marks,
         vars,
     );
-    Listed {
-        answer,
-        taken: i as u64,
-    }
+    let taken = i as u64;
+    Listed { answer, taken }
 }
 
 pub fn run_list(

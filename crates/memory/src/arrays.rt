@@ -65,7 +65,7 @@ fn named(number: i32) -> usize
 }
 
 // The four bytes of a number, from index i on.
-pub fn put_number(out: &mut [u8], i: usize, z: i32)
+fn put_number(out: &mut [u8], i: usize, z: i32)
     requires { ⌜ i + 4 ≤ length (now out) ⌝ }
     ensures { λ _. ⌜ now (out .exit) ≡ sets (now (out .entry)) i (bytes32 z) ⌝ }
 {

@@ -4,7 +4,6 @@ mod number;
 
 pub use arrays::act;
 pub use arrays::is_nonzero;
-pub use arrays::put_number;
 pub use arrays::tick;
 pub use number::bits_of;
 pub use number::difference;
