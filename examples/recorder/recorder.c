@@ -1,14 +1,21 @@
-/* A recorder's loop: it loads a program, checks it, starts it, hands over the events that come, and writes out what the program puts out.
- * Usage: recorder PROGRAM <EVENTS. PROGRAM is a table of records; a line of EVENTS is an event and its value. */
+/* A recorder's loop: it loads a program, checks it, starts it, hands over the
+ * events that come, and writes out what the program puts out.
+ * Usage: recorder PROGRAM <EVENTS. PROGRAM is a table of records; a line of
+ * EVENTS is an event and its value. */
+#include <inttypes.h>
+#include <stdbool.h>
 #include <stdio.h>
+#include <string.h>
 
 #include "landarbeso.h"
 
-/* room for six outputs, and lists of at most eight events: small, so that the example comes to refusal 12 */
+/* Room for six outputs, and lists of at most eight events: small, so that the
+ * example comes to refusal 12. */
 enum { ROOM_RECORDS = 6, LIST_EVENTS = 8 };
 
 struct recorder {
-    uint8_t table[LANDARBESO_MOST_RECORDS * LANDARBESO_RECORD_BYTES + 1]; /* one byte more shows that a file is too long */
+    /* one byte more shows that a file is too long */
+    uint8_t table[LANDARBESO_MOST_RECORDS * LANDARBESO_RECORD_BYTES + 1];
     size_t table_bytes;
     uint8_t marks[LANDARBESO_MOST_RECORDS];
     int32_t variables[LANDARBESO_VARIABLES];
@@ -19,31 +26,46 @@ struct recorder {
 static const char *meaning(uint32_t refused)
 {
     switch (refused) {
-    case 1: return "the program's length is wrong";
-    case 2: return "a record's kind or span is wrong";
-    case 3: return "a record's name or number is out of range";
-    case 4: return "a break stands in no loop";
-    case 5: return "an every or a fin holds what it must not";
-    case 6: return "loops are nested too deep";
-    case 7: return "a loop may go round without waiting";
-    case 8: return "the marks were damaged";
-    case 9: return "the variables are not 64";
-    case 10: return "that is no event";
-    case 11: return "the program needs more room for outputs";
-    case 12: return "the room for outputs is used up";
-    default: return "no such refusal";
+    case LANDARBESO_WRONG_LENGTH:
+        return "the program's length is wrong";
+    case LANDARBESO_WRONG_SHAPE:
+        return "a record's kind or span is wrong";
+    case LANDARBESO_OUT_OF_RANGE:
+        return "a record's name or number is out of range";
+    case LANDARBESO_LOOSE_BREAK:
+        return "a break stands in no loop";
+    case LANDARBESO_NOT_PLAIN:
+        return "an every or a fin holds what it must not";
+    case LANDARBESO_DEEP_LOOP:
+        return "loops are nested too deep";
+    case LANDARBESO_ENDLESS_LOOP:
+        return "a loop may go round without waiting";
+    case LANDARBESO_WRONG_MARKS:
+        return "the marks were damaged";
+    case LANDARBESO_WRONG_VARIABLES:
+        return "the variables are not 64";
+    case LANDARBESO_WRONG_EVENT:
+        return "that is no event";
+    case LANDARBESO_NO_ROOM:
+        return "the program needs more room for outputs";
+    case LANDARBESO_STOPPED:
+        return "the room for outputs is used up";
+    default:
+        return "no such refusal";
     }
 }
 
 static void report(uint32_t refused, uint32_t place)
 {
-    printf("refused %u at %u: %s\n", (unsigned)refused, (unsigned)place, meaning(refused));
+    printf("refused %" PRIu32 " at %" PRIu32 ": %s\n", refused, place,
+           meaning(refused));
 }
 
 static int32_t number_at(const uint8_t *bytes)
 {
-    uint32_t bits = bytes[0] | (uint32_t)bytes[1] << 8 | (uint32_t)bytes[2] << 16 | (uint32_t)bytes[3] << 24;
-    return bits < 0x80000000u ? (int32_t)bits : (int32_t)(bits - 0x80000000u) - 2147483647 - 1;
+    uint32_t bits = bytes[0] | (uint32_t)bytes[1] << 8 |
+                    (uint32_t)bytes[2] << 16 | (uint32_t)bytes[3] << 24;
+    return bits <= INT32_MAX ? (int32_t)bits : -1 - (int32_t)~bits;
 }
 
 /* Writes out what the program put out; its room is then free. */
@@ -51,56 +73,67 @@ static void drain(const struct recorder *r, uint64_t outputs)
 {
     for (uint64_t i = 0; i < outputs; i++) {
         const uint8_t *record = r->out + LANDARBESO_RECORD_BYTES * i;
-        printf("out %u %ld\n", record[0], (long)number_at(record + 4));
+        printf("out %u %" PRId32 "\n", record[0], number_at(record + 4));
     }
 }
 
-/* Loads, checks and starts a program; 0 where it cannot be run here. */
-static int begin(struct recorder *r, FILE *file)
+/* Loads, checks and starts a program; false where it cannot be run here. */
+static bool begin(struct recorder *r, FILE *file)
 {
+    struct landarbeso_checked checked;
+    struct landarbeso_answer answer;
     r->table_bytes = fread(r->table, 1, sizeof r->table, file);
-    struct landarbeso_checked checked = landarbeso_check(r->table, r->table_bytes);
+    checked = landarbeso_check(r->table, r->table_bytes);
     if (checked.refused != 0) {
         report(checked.refused, checked.place);
-        return 0;
+        return false;
     }
-    printf("accepted: at most %u steps and %u outputs a reaction\n", (unsigned)checked.steps, (unsigned)checked.outputs);
-    struct landarbeso_answer answer = landarbeso_start(
-        r->table, r->table_bytes, r->marks, r->table_bytes / LANDARBESO_RECORD_BYTES, r->variables, LANDARBESO_VARIABLES, r->out, sizeof r->out);
+    printf("accepted: at most %" PRIu32 " steps and %" PRIu32
+           " outputs a reaction\n",
+           checked.steps, checked.outputs);
+    answer = landarbeso_start(r->table, r->table_bytes, r->marks,
+                              r->table_bytes / LANDARBESO_RECORD_BYTES,
+                              r->variables, LANDARBESO_VARIABLES, r->out,
+                              sizeof r->out);
     if (answer.refused != 0) {
         report(answer.refused, answer.place);
-        return 0;
+        return false;
     }
     drain(r, answer.outputs);
     return !answer.finished;
 }
 
-/* Hands over a list and sets how many of its events are done with; 0 where the program has finished or cannot go on. */
-static int hand_over(struct recorder *r, const uint8_t *list, size_t events, size_t *done)
+/* Hands over a list and sets how many of its events are done with; false where
+ * the program has finished or cannot go on. */
+static bool hand_over(struct recorder *r, const uint8_t *list, size_t events,
+                      size_t *done)
 {
     struct landarbeso_answer answer = landarbeso_run_list(
-        r->table, r->table_bytes, r->marks, r->table_bytes / LANDARBESO_RECORD_BYTES, r->variables, LANDARBESO_VARIABLES,
-        list, events * LANDARBESO_RECORD_BYTES, r->out, sizeof r->out, &r->totals);
+        r->table, r->table_bytes, r->marks,
+        r->table_bytes / LANDARBESO_RECORD_BYTES, r->variables,
+        LANDARBESO_VARIABLES, list, events * LANDARBESO_RECORD_BYTES, r->out,
+        sizeof r->out, &r->totals);
+    /* nothing was taken: the events before a bad one go by themselves */
+    if (answer.refused == LANDARBESO_WRONG_EVENT && answer.place > 0)
+        return hand_over(r, list, answer.place, done);
+    if (answer.refused != 0)
+        report(answer.refused, answer.place);
     switch (answer.refused) {
     case 0:
-        drain(r, answer.outputs);
         *done = events;
-        return !answer.finished;
-    case 10: /* nothing was taken: the events before the bad one are handed over by themselves, and the bad one is dropped */
-        if (answer.place > 0) return hand_over(r, list, answer.place, done);
-        report(answer.refused, answer.place);
+        break;
+    case LANDARBESO_WRONG_EVENT: /* the bad one is dropped */
         *done = 1;
-        return 1;
-    case 12: /* the events before it were taken: the rest can follow once the room is free */
-        report(answer.refused, answer.place);
-        drain(r, answer.outputs);
+        return true;
+    case LANDARBESO_STOPPED: /* the rest can follow once the room is free */
         *done = answer.place;
-        return !answer.finished;
-    default: /* damage: what was lent is as it was, and nothing more is handed over */
-        report(answer.refused, answer.place);
+        break;
+    default: /* damage: what was lent is as it was, and no more goes over */
         *done = 0;
-        return 0;
+        return false;
     }
+    drain(r, answer.outputs);
+    return !answer.finished;
 }
 
 /* Reads the next events behind those that a list still holds. */
@@ -113,7 +146,8 @@ static size_t read_events(uint8_t *list, size_t held)
         uint32_t bits = (uint32_t)value;
         record[0] = (uint8_t)event;
         record[1] = record[2] = record[3] = 0;
-        for (int i = 0; i < 4; i++) record[4 + i] = (uint8_t)(bits >> 8 * i);
+        for (int i = 0; i < 4; i++)
+            record[4 + i] = (uint8_t)(bits >> 8 * i);
         held++;
     }
     return held;
@@ -125,17 +159,20 @@ int main(int count, char **words)
     uint8_t list[LIST_EVENTS * LANDARBESO_RECORD_BYTES];
     size_t held = 0, done;
     FILE *file = count == 2 ? fopen(words[1], "rb") : NULL;
+    bool going;
     if (file == NULL) {
-        fprintf(stderr, "usage: recorder PROGRAM <EVENTS\n");
+        fputs("usage: recorder PROGRAM <EVENTS\n", stderr);
         return 2;
     }
-    int going = begin(&recorder, file);
+    going = begin(&recorder, file);
     fclose(file);
     while (going && (held = read_events(list, held)) > 0) {
         going = hand_over(&recorder, list, held, &done);
         held -= done;
-        for (size_t i = 0; i < held * LANDARBESO_RECORD_BYTES; i++) list[i] = list[i + done * LANDARBESO_RECORD_BYTES];
+        memmove(list, list + done * LANDARBESO_RECORD_BYTES,
+                held * LANDARBESO_RECORD_BYTES);
     }
-    printf("%llu reactions, %llu steps\n", (unsigned long long)recorder.totals.reactions, (unsigned long long)recorder.totals.steps);
+    printf("%" PRIu64 " reactions, %" PRIu64 " steps\n",
+           recorder.totals.reactions, recorder.totals.steps);
     return 0;
 }

@@ -1,4 +1,6 @@
-/* Each function of the header on known inputs: every field of each answer and every byte lent. */
+/* Each function of the header on known inputs: every field of each answer and
+ * every byte lent. */
+#include <inttypes.h>
 #include <stdio.h>
 #include <string.h>
 
@@ -6,26 +8,38 @@
 
 static unsigned passed, failed;
 
-void same(const char *what, uint64_t is, uint64_t expected)
+const uint8_t case4[9 * RECORD_BYTES] = {RECORD(AND, 0, 9, 0),
+                                         RECORD(SEQUENCE, 0, 3, 0),
+                                         RECORD(AWAIT_INTERNAL, 1, 1, 0),
+                                         RECORD(OUTPUT, 1, 1, 1),
+                                         RECORD(SEQUENCE, 0, 5, 0),
+                                         RECORD(SET, 1, 1, 7),
+                                         RECORD(SEQUENCE, 0, 3, 0),
+                                         RECORD(EMIT, 1, 1, 0),
+                                         RECORD(SET, 1, 1, 9)};
+const uint8_t case5[4 * RECORD_BYTES] = {
+    RECORD(LOOP, 0, 4, 0), RECORD(SEQUENCE, 0, 3, 0),
+    RECORD(AWAIT_INPUT, 1, 1, 0), RECORD(OUTPUT, 1, 1, 0)};
+const uint8_t case6[4 * RECORD_BYTES] = {
+    RECORD(OR, 0, 4, 0), RECORD(FIN, 0, 2, 0), RECORD(OUTPUT, 2, 1, 0),
+    RECORD(AWAIT_INPUT, 1, 1, 0)};
+
+static void same_field(const char *what, const char *field, uint64_t is,
+                       uint64_t expected)
 {
     if (is == expected) {
         passed++;
-    } else {
-        failed++;
-        printf("%s: %llu, expected %llu\n", what, (unsigned long long)is, (unsigned long long)expected);
+        return;
     }
-}
-
-static void same_field(const char *what, const char *field, uint64_t is, uint64_t expected)
-{
-    char name[128];
-    snprintf(name, sizeof name, "%s: %s", what, field);
-    same(name, is, expected);
+    failed++;
+    printf("%s: %s: %" PRIu64 ", expected %" PRIu64 "\n", what, field, is,
+           expected);
 }
 
 #define FIELD(field) same_field(what, #field, is.field, expected.field)
 
-void same_checked(const char *what, struct landarbeso_checked is, struct landarbeso_checked expected)
+void same_checked(const char *what, struct landarbeso_checked is,
+                  struct landarbeso_checked expected)
 {
     FIELD(refused);
     FIELD(place);
@@ -35,7 +49,8 @@ void same_checked(const char *what, struct landarbeso_checked is, struct landarb
     FIELD(outputs);
 }
 
-void same_answer(const char *what, struct landarbeso_answer is, struct landarbeso_answer expected)
+void same_answer(const char *what, struct landarbeso_answer is,
+                 struct landarbeso_answer expected)
 {
     FIELD(refused);
     FIELD(place);
@@ -46,7 +61,8 @@ void same_answer(const char *what, struct landarbeso_answer is, struct landarbes
     FIELD(outputs);
 }
 
-void same_queried(const char *what, struct landarbeso_queried is, struct landarbeso_queried expected)
+void same_queried(const char *what, struct landarbeso_queried is,
+                  struct landarbeso_queried expected)
 {
     FIELD(refused);
     FIELD(place);
@@ -54,20 +70,30 @@ void same_queried(const char *what, struct landarbeso_queried is, struct landarb
     FIELD(lowest);
 }
 
-void same_written(const char *what, struct landarbeso_written is, struct landarbeso_written expected)
+void same_written(const char *what, struct landarbeso_written is,
+                  struct landarbeso_written expected)
 {
     FIELD(refused);
     FIELD(place);
     FIELD(records);
 }
 
-void same_lent(const char *what, const struct lent *is, const struct lent *expected)
+void same_lent(const char *what, const struct lent *is,
+               const struct lent *expected)
 {
-    same_field(what, "marks", (uint64_t)memcmp(is->marks, expected->marks, sizeof is->marks), 0);
-    same_field(what, "variables", (uint64_t)memcmp(is->variables, expected->variables, sizeof is->variables), 0);
-    same_field(what, "out", (uint64_t)memcmp(is->out, expected->out, sizeof is->out), 0);
-    same_field(what, "total of reactions", is->totals.reactions, expected->totals.reactions);
-    same_field(what, "total of steps", is->totals.steps, expected->totals.steps);
+    same_field(what, "marks",
+               (uint64_t)memcmp(is->marks, expected->marks, sizeof is->marks),
+               0);
+    same_field(what, "variables",
+               (uint64_t)memcmp(is->variables, expected->variables,
+                                sizeof is->variables),
+               0);
+    same_field(what, "out",
+               (uint64_t)memcmp(is->out, expected->out, sizeof is->out), 0);
+    same_field(what, "total of reactions", is->totals.reactions,
+               expected->totals.reactions);
+    same_field(what, "total of steps", is->totals.steps,
+               expected->totals.steps);
 }
 
 void fresh(struct lent *lent)
@@ -85,5 +111,5 @@ int main(void)
     list_cases();
     ask_cases();
     printf("%u passed, %u failed\n", passed, failed);
-    return failed != 0;
+    return failed == 0 ? 0 : 1;
 }

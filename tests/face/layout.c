@@ -2,9 +2,10 @@
 #include "landarbeso.h"
 
 #define SIZE(type, size) _Static_assert(sizeof(struct type) == (size), #type)
-#define FIELD(type, field, at, bytes)                                               \
-    _Static_assert(offsetof(struct type, field) == (at), #type "." #field);         \
-    _Static_assert(sizeof(((struct type *)0)->field) == (bytes), #type "." #field)
+#define FIELD(type, field, at, bytes)                                         \
+    _Static_assert(offsetof(struct type, field) == (at), #type "." #field);   \
+    _Static_assert(sizeof(((struct type *)0)->field) == (bytes),              \
+                   #type "." #field)
 
 SIZE(landarbeso_checked, 24);
 FIELD(landarbeso_checked, refused, 0, 4);
