@@ -10,10 +10,5 @@ archive:
 test:
 	for test in tests/*/run; do $$test || exit 1; done
 
-BENCH_OWN_ARCHIVE := target/archive/liblandarbeso.a
-BENCH_ARCHIVE := target/archive/liblandarbeso.a
 include tests/bench/bench.mk
 include tests/comparison/comparison.mk
-
-$(BENCH_ARCHIVE):
-	$(MAKE) archive

@@ -3,30 +3,36 @@
  * Usage: bench ROW WORK IMPLEMENTATION TIMES
  *   ROW             check, react, list, query; show writes the outputs
  *   WORK            a name from work.h
- *   IMPLEMENTATION  quick; machine, for the scenario; product, where compiled
- *                   with -DWITH_PRODUCT
+ *   IMPLEMENTATION  product; quick; machine, for the scenario
  * What a run costs beside the calls is the same for any TIMES, so that (2n
  * calls - n calls) / n is the cost of one call and of the loop around it. */
+#include <inttypes.h>
 #include <stdio.h>
 #include <stdlib.h>
 #include <string.h>
 
-#include "quick.h"
-#include "quick_parts.h"
-#include "work.h"
-
-#ifdef WITH_PRODUCT
 #include "landarbeso.h"
-#endif
+#include "quick.h"
+#include "work.h"
 
 static uint8_t out[OUT_BYTES];
 static struct work work;
 
+/* The work of a row is never refused. */
+static void must(bool holds, const char *what)
+{
+    if (!holds) {
+        fprintf(stderr, "bench: %s refused\n", what);
+        exit(1);
+    }
+}
+
 static void show_outputs(size_t outputs)
 {
     for (size_t i = 0; i < outputs; i++) {
-        uint64_t output = eight_bytes(out + 8 * i);
-        printf("out %u %d\n", kind_of(output), (int32_t)number_of(output));
+        uint64_t output = record_at(out, i);
+        printf("out %" PRIu32 " %" PRId32 "\n", kind_of(output),
+               (int32_t)number_of(output));
     }
 }
 
@@ -34,11 +40,9 @@ static void show_outputs(size_t outputs)
 #define ROW(name) quick_row_##name
 #include "rows.inc"
 
-#ifdef WITH_PRODUCT
 #define CALL(name) landarbeso_##name
 #define ROW(name) product_row_##name
 #include "rows.inc"
-#endif
 
 static struct machine machine;
 
@@ -46,10 +50,10 @@ static void machine_row_react(const struct work *w, uint32_t n)
 {
     uint32_t next = 0;
     for (; n > 0; n--) {
-        uint64_t event = eight_bytes(w->events + 8 * next);
-        if (machine_react(&machine, kind_of(event), (int32_t)number_of(event),
-                          out, OUT_BYTES) < 0)
-            exit(1);
+        uint64_t event = record_at(w->events, next);
+        must(machine_react(&machine, kind_of(event), (int32_t)number_of(event),
+                           out, OUT_BYTES) >= 0,
+             "react");
         next = next + 1 < WORK_EVENTS ? next + 1 : 0;
     }
 }
@@ -57,9 +61,9 @@ static void machine_row_react(const struct work *w, uint32_t n)
 static void machine_row_list(const struct work *w, uint32_t n)
 {
     for (; n > 0; n--)
-        if (machine_run_list(&machine, w->events, sizeof w->events, out,
-                             OUT_BYTES) == 0)
-            exit(1);
+        must(machine_run_list(&machine, w->events, sizeof w->events, out,
+                              OUT_BYTES) > 0,
+             "list");
 }
 
 static void machine_row_show(const struct work *w)
@@ -77,40 +81,39 @@ struct rows {
     void (*show)(const struct work *);
 };
 
-static int prepare(const char *implementation, struct rows *rows)
+/* False where there is no such implementation. */
+static bool prepare(const char *implementation, struct rows *rows)
 {
     static const struct rows quick = {quick_row_check, quick_row_react,
                                       quick_row_list, quick_row_query,
                                       quick_row_show};
-    static const struct rows by_hand = {NULL, machine_row_react,
-                                        machine_row_list, NULL,
-                                        machine_row_show};
-#ifdef WITH_PRODUCT
+    static const struct rows by_hand = {
+        NULL, machine_row_react, machine_row_list, NULL, machine_row_show};
     static const struct rows product = {product_row_check, product_row_react,
                                         product_row_list, product_row_query,
                                         product_row_show};
     if (strcmp(implementation, "product") == 0) {
         product_row_make_rest(&work);
         *rows = product;
-        return 1;
+        return true;
     }
-#endif
     if (strcmp(implementation, "quick") == 0) {
         quick_row_make_rest(&work);
         *rows = quick;
-        return 1;
+        return true;
     }
     machine = machine_start();
     *rows = by_hand;
     return strcmp(implementation, "machine") == 0;
 }
 
-static int perform(const struct rows *rows, const char *row, uint32_t n)
+/* False where the implementation has no such row. */
+static bool perform(const struct rows *rows, const char *row, uint32_t n)
 {
     void (*wanted)(const struct work *, uint32_t) = NULL;
     if (strcmp(row, "show") == 0) {
         rows->show(&work);
-        return 1;
+        return true;
     }
     if (strcmp(row, "check") == 0)
         wanted = rows->check;
@@ -121,16 +124,17 @@ static int perform(const struct rows *rows, const char *row, uint32_t n)
     else if (strcmp(row, "query") == 0)
         wanted = rows->query;
     if (wanted == NULL)
-        return 0;
+        return false;
     wanted(&work, n);
-    return 1;
+    return true;
 }
 
-int main(int argc, char **argv)
+int main(int count, char **words)
 {
     struct rows rows;
-    if (argc != 5 || !make_work(&work, argv[2]) || !prepare(argv[3], &rows) ||
-        !perform(&rows, argv[1], (uint32_t)strtoul(argv[4], NULL, 10))) {
+    if (count != 5 || !make_work(&work, words[2]) ||
+        !prepare(words[3], &rows) ||
+        !perform(&rows, words[1], (uint32_t)strtoul(words[4], NULL, 10))) {
         fprintf(stderr, "bench: no such row, work or implementation\n");
         return 2;
     }

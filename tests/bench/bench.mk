@@ -1,74 +1,47 @@
-# The benchmark.  From the top Makefile: include tests/bench/bench.mk
+# The benchmark. From the top Makefile: include tests/bench/bench.mk
 #   make bench          builds all, counts, writes the tables and the picture
-#   make bench-compare  compares on random calls with the independent program
-# The product takes part where its archive is there.
+#   make bench-compare  compares the quick interpreter, then the product, with the independent program on random calls
 
 BENCH_DIR := tests/bench
 BENCH_TARGET := target/bench
-BENCH_INCLUDE ?= include
+BENCH_ARCHIVE := target/archive/liblandarbeso.a
 BENCH_MARKDOWN ?= docs/PERFORMANCE.md
 BENCH_SVG ?= docs/performance.svg
 BENCH_CALLS ?= 200000
 BENCH_SEED ?= 1
-# What the archive needs behind it, if anything.
-BENCH_LIBS ?=
-INDEPENDENT ?= tests/independent
-# What is counted is x86-64 code everywhere; elsewhere qemu-user runs it.  The
-# comparison runs on the machine's own archive.
-BENCH_OWN_ARCHIVE ?= $(wildcard target/release/liblandarbeso.a)
-ifeq ($(shell uname -m),x86_64)
-BENCH_CC ?= gcc
-BENCH_ARCHIVE ?= $(BENCH_OWN_ARCHIVE)
-else
-BENCH_CC ?= x86_64-linux-gnu-gcc
-BENCH_ARCHIVE ?= \
-	$(wildcard target/x86_64-unknown-linux-gnu/release/liblandarbeso.a)
-endif
-BENCH_FLAGS := -std=c99 -O2 -Wall -Wextra -Wpedantic -Wshadow -Werror
-BENCH_PRODUCT := -DWITH_PRODUCT -I$(BENCH_INCLUDE)
-BENCH_ALL_FLAGS := $(BENCH_CC) $(BENCH_FLAGS) \
-	$(if $(BENCH_ARCHIVE),$(BENCH_PRODUCT))
+# tests/toolchain.sh says how C is compiled for the archive and run; $(call toolchain,NAME) is what it has under that name.
+toolchain = $(shell . tests/toolchain.sh && echo "$$$(1)")
+BENCH_CC := $(call toolchain,cc)
+BENCH_FLAGS := -std=c99 -O2 $(call toolchain,warnings) -Iinclude
+BENCH_RUN := $(call toolchain,emulator)
 
-BENCH_QUICK := quick quick_check quick_refuse quick_run
-BENCH_HEADERS := $(wildcard $(BENCH_DIR)/*.h $(BENCH_DIR)/*.inc)
-BENCH_INDEPENDENT := $(patsubst %,$(INDEPENDENT)/%.c,records check tree marks \
-	spine rules calls list coverage)
+BENCH_QUICK := $(patsubst $(BENCH_DIR)/%.c,%,$(wildcard $(BENCH_DIR)/quick*.c))
+BENCH_HEADERS := $(wildcard $(BENCH_DIR)/*.h $(BENCH_DIR)/*.inc) include/landarbeso.h $(BENCH_DIR)/bench.mk tests/toolchain.sh
 
-.PHONY: bench bench-compare bench-flags
+.PHONY: bench bench-compare
 bench: $(BENCH_TARGET)/bench $(BENCH_TARGET)/stack
-	python3 $(BENCH_DIR)/bench.py $(BENCH_TARGET) \
-		--markdown $(BENCH_MARKDOWN) --svg $(BENCH_SVG) \
-		$(if $(BENCH_ARCHIVE),--archive $(BENCH_ARCHIVE))
+	python3 $(BENCH_DIR)/bench.py $(BENCH_TARGET) $(BENCH_ARCHIVE) --markdown $(BENCH_MARKDOWN) --svg $(BENCH_SVG)
 
-# All is built anew when the flags change, as they do with the archive.
-$(BENCH_TARGET)/flags: bench-flags
+$(BENCH_ARCHIVE):
+	$(MAKE) archive
+
+$(BENCH_TARGET)/%.o: $(BENCH_DIR)/%.c $(BENCH_HEADERS)
 	@mkdir -p $(BENCH_TARGET)
-	@echo '$(BENCH_ALL_FLAGS)' | cmp -s - $@ || \
-		echo '$(BENCH_ALL_FLAGS)' > $@
+	$(BENCH_CC) $(BENCH_FLAGS) -c -o $@ $<
 
-$(BENCH_TARGET)/%.o: $(BENCH_DIR)/%.c $(BENCH_HEADERS) $(BENCH_TARGET)/flags
-	$(BENCH_ALL_FLAGS) -c -o $@ $<
+$(BENCH_TARGET)/bench: $(patsubst %,$(BENCH_TARGET)/%.o,bench work scenario machine $(BENCH_QUICK)) $(BENCH_ARCHIVE)
+	$(BENCH_CC) -static -o $@ $^
 
-$(BENCH_TARGET)/bench: $(patsubst %,$(BENCH_TARGET)/%.o,bench work scenario \
-		machine $(BENCH_QUICK)) $(BENCH_ARCHIVE)
-	$(BENCH_CC) -static -o $@ $^ $(BENCH_LIBS)
+$(BENCH_TARGET)/stack: $(patsubst %,$(BENCH_TARGET)/%.o,stack work scenario $(BENCH_QUICK)) $(BENCH_ARCHIVE)
+	$(BENCH_CC) -static -o $@ $^
 
-$(BENCH_TARGET)/stack: $(patsubst %,$(BENCH_TARGET)/%.o,stack work scenario \
-		$(BENCH_QUICK)) $(BENCH_ARCHIVE)
-	$(BENCH_CC) -static -o $@ $^ $(BENCH_LIBS)
+# what both comparisons are built of, beside the interpreter that is compared
+BENCH_COMPARE := $(BENCH_FLAGS) -Itests/independent $(patsubst %,$(BENCH_DIR)/%.c,compare compare_draw work scenario) \
+	$(addprefix tests/independent/,$(shell cat tests/independent/library.txt))
 
-# The quick interpreter, then the product.
-BENCH_COMPARE := $(patsubst %,$(BENCH_DIR)/%.c,compare compare_draw work \
-	scenario)
-bench-compare: $(BENCH_TARGET)/flags
-	$(CC) $(BENCH_FLAGS) -I$(INDEPENDENT) -o $(BENCH_TARGET)/compare_quick \
-		$(BENCH_COMPARE) $(BENCH_INDEPENDENT) \
-		$(patsubst %,$(BENCH_DIR)/%.c,$(BENCH_QUICK))
-	$(BENCH_TARGET)/compare_quick $(BENCH_CALLS) $(BENCH_SEED)
-ifneq ($(BENCH_OWN_ARCHIVE),)
-	$(CC) $(BENCH_FLAGS) $(BENCH_PRODUCT) -I$(INDEPENDENT) \
-		-o $(BENCH_TARGET)/compare_product \
-		$(BENCH_COMPARE) $(BENCH_INDEPENDENT) $(BENCH_OWN_ARCHIVE) \
-		$(BENCH_LIBS)
-	$(BENCH_TARGET)/compare_product $(BENCH_CALLS) $(BENCH_SEED)
-endif
+bench-compare: $(BENCH_ARCHIVE)
+	@mkdir -p $(BENCH_TARGET)
+	$(BENCH_CC) -o $(BENCH_TARGET)/compare_quick $(BENCH_COMPARE) $(BENCH_QUICK:%=$(BENCH_DIR)/%.c)
+	$(BENCH_RUN) $(BENCH_TARGET)/compare_quick $(BENCH_CALLS) $(BENCH_SEED)
+	$(BENCH_CC) -DWITH_PRODUCT -o $(BENCH_TARGET)/compare_product $(BENCH_COMPARE) $(BENCH_ARCHIVE)
+	$(BENCH_RUN) $(BENCH_TARGET)/compare_product $(BENCH_CALLS) $(BENCH_SEED)

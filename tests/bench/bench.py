@@ -1,12 +1,12 @@
 #!/usr/bin/env python3
 """Counts the instructions of all rows of the benchmark and writes the tables.
 
-Usage: bench.py TARGET [--markdown FILE] [--svg FILE] [--archive FILE]
+Usage: bench.py TARGET ARCHIVE [--markdown FILE] [--svg FILE]
 
-TARGET is the folder with the built programs bench and stack.  Tables go to
-standard output; --markdown replaces the part of FILE between the two bench
-lines, or makes FILE of that part alone; --svg draws the picture.  --archive is
-the product's archive, for its size; without it the product has no column.
+TARGET is the folder with the built programs bench and stack, ARCHIVE the
+product's, for its size. Tables go to standard output; --markdown replaces the
+part of FILE between the two bench lines, or makes FILE of that part alone;
+--svg draws the picture.
 """
 import argparse
 import glob
@@ -26,11 +26,12 @@ AT_HOME = platform.machine() == "x86_64"
 RUNNER = [] if AT_HOME else ["qemu-x86_64"]
 SIZE = "size" if AT_HOME else "x86_64-linux-gnu-size"
 EVENTS = 100  # in a list
+IMPLEMENTATIONS = ["product", "quick"]
 RECORDS = (8, 16, 32, 64, 128, 256)
 LEVELS = (1, 2, 5, 10, 20, 50)
 
-# Row of the driver, its work, and what the table calls it.  rows.inc says what
-# a row does, work.c what a work contains.  A list counts for each of its 100
+# Row of the driver, its work, and what the table calls it. rows.inc says what
+# a row does, work.c what a work contains. A list counts for each of its 100
 # events, so that a hundredth of its tests is in it.
 ROWS = (
     ("check", "small", "check, 10 records"),
@@ -106,7 +107,7 @@ def table(head, lines):
     return "\n".join(parts)
 
 
-def same_outputs(target, implementations):
+def same_outputs(target):
     """All implementations must put out the same for all works."""
     def show(work, implementation):
         command = RUNNER + [os.path.join(target, "bench"), "show", work,
@@ -117,7 +118,7 @@ def same_outputs(target, implementations):
     works += [f"records-{n}" for n in RECORDS]
     works += [f"levels-{n}" for n in LEVELS]
     for work in works:
-        answers = {show(work, name) for name in implementations}
+        answers = {show(work, name) for name in IMPLEMENTATIONS}
         if len(answers) != 1:
             sys.exit(f"bench: the implementations differ on {work}")
     by_hand = show("scenario", "machine")
@@ -125,36 +126,31 @@ def same_outputs(target, implementations):
         sys.exit("bench: the state machine differs")
 
 
-def main_rows(counter, implementations):
+def main_rows(counter):
     """For each row its name and its cost by implementation."""
     rows = []
     for row, work, name in ROWS:
-        costs = {i: counter.cost(row, work, i) for i in implementations}
+        costs = {i: counter.cost(row, work, i) for i in IMPLEMENTATIONS}
         if work == "scenario":
             costs["machine"] = counter.cost(row, work, "machine")
         rows.append((name, costs))
     return rows
 
 
-def main_table(rows, implementations):
-    names = implementations + ["machine"]
-    head = ["instructions per call"] + names
-    if "product" in implementations:
-        head.append("product / quick")
-    lines = []
-    for name, costs in rows:
-        line = [name] + [shown(costs.get(i)) for i in names]
-        if "product" in implementations:
-            line.append(f"{costs['product'] / costs['quick']:.2f}")
-        lines.append(line)
+def main_table(rows):
+    names = IMPLEMENTATIONS + ["machine"]
+    head = ["instructions per call"] + names + ["product / quick"]
+    lines = [[name] + [shown(costs.get(i)) for i in names]
+             + [f"{costs['product'] / costs['quick']:.2f}"]
+             for name, costs in rows]
     return table(head, lines)
 
 
-def growth(counter, implementations, sizes, rows):
+def growth(counter, sizes, rows):
     """rows: (row of the driver, its work with {} for the size, its name).
     Gives (name, implementation, costs by size)."""
     return [(name, i, [counter.cost(row, work.format(n), i) for n in sizes])
-            for row, work, name in rows for i in implementations]
+            for row, work, name in rows for i in IMPLEMENTATIONS]
 
 
 def growth_table(what, sizes, lines):
@@ -178,11 +174,11 @@ def most_stack(target, implementation):
     return int(done.stdout.splitlines()[-1].split()[0])
 
 
-def memory_table(target, implementations, archive):
+def memory_table(target, archive):
     files = {"quick": sorted(glob.glob(os.path.join(target, "quick*.o"))),
              "product": [archive]}
     lines = []
-    for name in implementations:
+    for name in IMPLEMENTATIONS:
         code, data = sizes_of(files[name])
         on_disk = sum(os.path.getsize(f) for f in files[name])
         lines.append([name, shown(most_stack(target, name)), f"{code:,}",
@@ -210,20 +206,19 @@ def write_part(path, text):
 def main():
     parser = argparse.ArgumentParser(description=__doc__.splitlines()[0])
     parser.add_argument("target")
+    parser.add_argument("archive")
     parser.add_argument("--markdown")
     parser.add_argument("--svg")
-    parser.add_argument("--archive")
     options = parser.parse_args()
-    implementations = (["product"] if options.archive else []) + ["quick"]
-    same_outputs(options.target, implementations)
+    same_outputs(options.target)
     counter = Counter(options.target)
-    rows = main_rows(counter, implementations)
-    records = growth(counter, implementations, RECORDS, (
+    rows = main_rows(counter)
+    records = growth(counter, RECORDS, (
         ("check", "records-{}", "check"),
         ("react", "records-{}", "react"),
         ("list", "records-{}", "event in a list"),
         ("list", "records-{}-ignored", "ignored event in a list")))
-    levels = growth(counter, implementations, LEVELS, (
+    levels = growth(counter, LEVELS, (
         ("react", "levels-{}", "react"),
         ("list", "levels-{}", "event in a list")))
     tool = "callgrind" if AT_HOME else "qemu-user"
@@ -232,13 +227,13 @@ def main():
         "general interpreter in plain C, \"machine\" the contact scenario "
         "written by hand. A list has 100 events; its tests are shared out "
         "among them.",
-        main_table(rows, implementations),
+        main_table(rows),
         "Instructions against the number of records; the event wakes one "
         "trail in all of them:",
         growth_table("records", RECORDS, records),
         "Instructions against the number of levels, in 256 records:",
         growth_table("levels", LEVELS, levels),
-        memory_table(options.target, implementations, options.archive)))
+        memory_table(options.target, options.archive)))
     print(text)
     if options.markdown:
         write_part(options.markdown, text)

@@ -1,7 +1,8 @@
-/* Compares an interpreter with the independent program on the benchmark's works
- * and on random calls: the whole answer, and all that was lent.  Compiled with -DWITH_PRODUCT it
- * compares the product, else the quick interpreter.
- * Usage: compare [calls [seed]]. */
+/* Compares an interpreter with the independent program on the benchmark's
+ * works and on random calls: the whole answer, and all that was lent. Compiled
+ * with -DWITH_PRODUCT it compares the product, else the quick interpreter.
+ * Usage: compare CALLS SEED. The last line is "N passed, M failed". */
+#include <inttypes.h>
 #include <stdio.h>
 #include <stdlib.h>
 #include <string.h>
@@ -19,11 +20,11 @@
 #endif
 
 enum {
-    TABLE_ROOM = 2048 + 64,
-    MARKS_ROOM = 256 + 8,
-    VARIABLES_ROOM = 65,
+    TABLE_ROOM = MOST_RECORDS * RECORD_BYTES + 64,
+    MARKS_ROOM = MOST_RECORDS + 8,
+    VARIABLES_ROOM = VARIABLES + 1,
     OUT_ROOM = 1 << 16,
-    EVENTS_ROOM = 65536 + 64
+    EVENTS_ROOM = MOST_LIST_BYTES + 64
 };
 
 /* All that is lent, once for each side. */
@@ -45,18 +46,20 @@ struct given {
 
 static struct given given;
 static struct lent ours, theirs; /* theirs: the independent program's */
-static uint64_t calls, refused[14];
+static uint64_t calls, refused[INDEPENDENT_REFUSALS];
 static uint64_t most_steps, highest_level;
 
 static void differ(const char *what)
 {
-    printf("compare: %s differs after %llu calls; table:\n", what,
-           (unsigned long long)calls);
+    printf("%s differs; table:\n", what);
     for (size_t i = 0; i < given.table_bytes; i++)
-        printf("%02x%s", given.table[i], i % 8 == 7 ? "\n" : "");
-    printf("marks %zu, variables %zu, out %zu, events %zu, event %u, value %d\n",
+        printf("%02x%s", given.table[i],
+               i % RECORD_BYTES == RECORD_BYTES - 1 ? "\n" : "");
+    printf("marks %zu, variables %zu, out %zu, events %zu, event %" PRIu32
+           ", value %" PRId32 "\n",
            given.marks_bytes, given.variables_count, given.out_bytes,
-           given.events_bytes, given.event, (int)given.value);
+           given.events_bytes, given.event, given.value);
+    printf("%" PRIu64 " passed, 1 failed\n", calls);
     exit(1);
 }
 
@@ -66,11 +69,12 @@ static void settle(const char *what, const void *our, const void *their,
 {
     uint32_t number;
     memcpy(&number, their, sizeof number);
-    calls++;
-    refused[number < 13 ? number : 13]++;
     if (memcmp(our, their, bytes) != 0 ||
-        memcmp(&ours, &theirs, sizeof ours) != 0)
+        memcmp(&ours, &theirs, sizeof ours) != 0 ||
+        number >= INDEPENDENT_REFUSALS)
         differ(what);
+    calls++;
+    refused[number]++;
 }
 
 static uint32_t do_check(void)
@@ -143,12 +147,12 @@ static void do_query(void)
 static void do_remaining(void)
 {
 #ifdef WITH_PRODUCT
-    struct independent_remaining their = independent_remaining(
-        given.table, given.table_bytes, theirs.marks, given.marks_bytes,
-        theirs.out, given.out_bytes);
-    struct landarbeso_written our = landarbeso_remaining(
-        given.table, given.table_bytes, ours.marks, given.marks_bytes,
-        ours.out, given.out_bytes);
+    struct independent_remaining their =
+        independent_remaining(given.table, given.table_bytes, theirs.marks,
+                              given.marks_bytes, theirs.out, given.out_bytes);
+    struct landarbeso_written our =
+        landarbeso_remaining(given.table, given.table_bytes, ours.marks,
+                             given.marks_bytes, ours.out, given.out_bytes);
     settle("remaining", &our, &their, sizeof our);
 #endif
 }
@@ -161,7 +165,7 @@ static void spoil(void)
         given.marks_bytes += draw(2) ? 1 : (size_t)-1;
         break;
     case 1:
-        given.variables_count = draw(66);
+        given.variables_count = draw(VARIABLES + 2);
         break;
     case 2:
         given.event = draw(2) ? 0 : 64 + draw(300);
@@ -176,7 +180,7 @@ static void spoil(void)
         given.out_bytes = draw(200);
         break;
     case 8: /* one byte too long, or the longest, mostly of bad events */
-        given.events_bytes = 65536 + draw(2);
+        given.events_bytes = MOST_LIST_BYTES + draw(2);
         break;
     case 6:
     case 7:
@@ -191,16 +195,17 @@ static void spoil(void)
 /* The lengths that belong to the table. */
 static void right_lengths(void)
 {
-    given.marks_bytes = given.table_bytes / 8;
-    given.variables_count = 64;
+    given.marks_bytes = given.table_bytes / RECORD_BYTES;
+    given.variables_count = VARIABLES;
     given.out_bytes = OUT_ROOM;
 }
 
 static void draw_round(void)
 {
     static const uint32_t sizes[] = {4, 8, 12, 20, 40, 80, 256};
-    uint32_t records = draw_table(given.table, sizes[draw(7)]);
-    given.table_bytes = records * 8u;
+    uint32_t records =
+        draw_table(given.table, sizes[draw(sizeof sizes / sizeof *sizes)]);
+    given.table_bytes = records * RECORD_BYTES;
     if (draw(6) == 0)
         given.table_bytes = damage_table(given.table, given.table_bytes);
     right_lengths();
@@ -217,10 +222,10 @@ static void draw_events_of_call(void)
 {
     given.event = 1 + draw(5);
     given.value = (int32_t)draw(5) - 2;
-    given.events_bytes = draw(12) * 8;
-    draw_events(given.events, (uint32_t)given.events_bytes / 8);
+    given.events_bytes = draw(12) * RECORD_BYTES;
+    draw_events(given.events, (uint32_t)given.events_bytes / RECORD_BYTES);
     if (draw(4) == 0) /* little room, that a list may stop */
-        given.out_bytes = draw(8 * 24);
+        given.out_bytes = draw(24 * RECORD_BYTES);
 }
 
 /* One program: check, start, then reactions from the marks that come of it and
@@ -228,7 +233,7 @@ static void draw_events_of_call(void)
 static void round_of_calls(void)
 {
     uint32_t times = 1 + draw(8);
-    int accepted;
+    bool accepted;
     draw_round();
     accepted = do_check() == 0;
     do_start();
@@ -251,19 +256,22 @@ static void round_of_calls(void)
 static void work_of_calls(const char *name)
 {
     static struct work w;
-    if (!make_work(&w, name))
+    if (!make_work(&w, name)) {
+        fprintf(stderr, "compare: no work %s\n", name);
         exit(2);
+    }
     draw_round();
     memcpy(given.table, w.table, sizeof w.table);
     memcpy(given.events, w.events, sizeof w.events);
-    given.table_bytes = w.records * 8u;
+    given.table_bytes = w.records * RECORD_BYTES;
     given.events_bytes = sizeof w.events;
     right_lengths();
     do_check();
     do_start();
     for (size_t i = 0; i < WORK_EVENTS; i++) {
-        given.event = w.events[8 * i];
-        memcpy(&given.value, w.events + 8 * i + 4, sizeof given.value);
+        uint64_t event = record_at(w.events, i);
+        given.event = kind_of(event);
+        given.value = (int32_t)number_of(event);
         do_react();
         do_query();
         do_remaining();
@@ -271,23 +279,27 @@ static void work_of_calls(const char *name)
     do_list();
 }
 
-int main(int argc, char **argv)
+int main(int count, char **words)
 {
-    uint64_t wanted = argc > 1 ? strtoull(argv[1], NULL, 10) : 200000;
-    uint64_t seed = argc > 2 ? strtoull(argv[2], NULL, 10) : 1;
     static const char *const works[] = {
-        "small", "medium", "full", "full-ignored", "scenario", "chain",
-        "records-8", "records-256", "levels-1", "levels-50"};
-    draw_from(seed);
+        "small", "medium",    "full",        "full-ignored", "scenario",
+        "chain", "records-8", "records-256", "levels-1",     "levels-50"};
+    uint64_t wanted;
+    if (count != 3) {
+        fputs("usage: compare CALLS SEED\n", stderr);
+        return 2;
+    }
+    wanted = strtoull(words[1], NULL, 10);
+    draw_from(strtoull(words[2], NULL, 10));
     for (size_t i = 0; i < sizeof works / sizeof *works; i++)
         work_of_calls(works[i]);
     while (calls < wanted)
         round_of_calls();
-    printf("compare: %llu calls alike; accepted %llu; refused",
-           (unsigned long long)calls, (unsigned long long)refused[0]);
-    for (uint32_t i = 1; i <= 12; i++)
-        printf(" %u: %llu", i, (unsigned long long)refused[i]);
-    printf("; one reaction's most steps %llu, level %llu\n",
-           (unsigned long long)most_steps, (unsigned long long)highest_level);
-    return refused[13] != 0;
+    printf("accepted %" PRIu64 "; refused", refused[0]);
+    for (uint32_t i = 1; i < INDEPENDENT_REFUSALS; i++)
+        printf(" %" PRIu32 ": %" PRIu64, i, refused[i]);
+    printf("; one reaction's most steps %" PRIu64 ", level %" PRIu64 "\n",
+           most_steps, highest_level);
+    printf("%" PRIu64 " passed, 0 failed\n", calls);
+    return 0;
 }

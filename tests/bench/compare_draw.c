@@ -23,10 +23,10 @@ struct growth {
     uint32_t records;
     uint32_t events; /* how many different events the program uses */
     uint32_t loops;
-    int plain;    /* under an every or a fin */
-    int careless; /* does not mind the stages 4 to 6 */
-    int looping;  /* more loops than otherwise */
-    int busy;     /* many trails that wake each other */
+    bool plain;    /* under an every or a fin */
+    bool careless; /* does not mind the stages 4 to 6 */
+    bool looping;  /* more loops than otherwise */
+    bool busy;     /* many trails that wake each other */
 };
 
 static void put(struct growth *g, uint32_t kind, uint32_t name,
@@ -49,9 +49,9 @@ static uint32_t some_event(struct growth *g)
 
 static uint32_t some_number(void)
 {
-    static const uint32_t numbers[] = {0, 1, 2, 7, 0xffffffff, 0x80000000,
-                                       0x7fffffff, 0xfffffff9};
-    return numbers[draw(8)];
+    static const uint32_t numbers[] = {
+        0, 1, 2, 7, 0xffffffff, 0x80000000, 0x7fffffff, 0xfffffff9};
+    return numbers[draw(sizeof numbers / sizeof *numbers)];
 }
 
 static void grow_leaf(struct growth *g)
@@ -88,16 +88,16 @@ static void grow_relay(struct growth *g)
 /* A trail of a few awaits, emits and other leaves, one after the other. */
 static void grow_trail(struct growth *g, uint32_t most)
 {
-    static const uint8_t kinds[] = {AWAIT_INTERNAL, AWAIT_INTERNAL, EMIT, EMIT,
-                                    AWAIT_INPUT, EMIT};
+    static const uint8_t kinds[] = {AWAIT_INTERNAL, AWAIT_INTERNAL, EMIT,
+                                    EMIT,           AWAIT_INPUT,    EMIT};
     uint32_t place = g->records;
-    int more = most >= 3 && draw(5) != 0;
+    bool more = most >= 3 && draw(5) != 0;
     if (more)
         put(g, SEQUENCE, 0, 0);
     if (draw(4) == 0)
         grow_leaf(g);
     else
-        put(g, kinds[draw(6)], some_event(g), 0);
+        put(g, kinds[draw(sizeof kinds)], some_event(g), 0);
     put_span(g, g->records - 1);
     if (more) {
         grow_trail(g, most - 2);
@@ -163,30 +163,54 @@ static void grow_loop(struct growth *g, uint32_t most)
 static void grow_plain(struct growth *g, uint32_t kind, uint32_t most)
 {
     put(g, kind, kind == FIN ? 0 : some_event(g), 0);
-    g->plain = 1;
+    g->plain = true;
     grow(g, 1 + draw(most - 1 < 9 ? most - 1 : 9));
-    g->plain = 0;
+    g->plain = false;
 }
 
-static void grow(struct growth *g, uint32_t most)
+static uint32_t some_kind(const struct growth *g, uint32_t most)
 {
-    static const uint8_t kinds[] = {SEQUENCE, SEQUENCE, SEQUENCE, SEQUENCE,
-                                    IF, AND, AND, AND, AND, OR, OR, OR,
-                                    LOOP, LOOP, FIN, EVERY_INPUT,
+    static const uint8_t kinds[] = {SEQUENCE,
+                                    SEQUENCE,
+                                    SEQUENCE,
+                                    SEQUENCE,
+                                    IF,
+                                    AND,
+                                    AND,
+                                    AND,
+                                    AND,
+                                    OR,
+                                    OR,
+                                    OR,
+                                    LOOP,
+                                    LOOP,
+                                    FIN,
+                                    EVERY_INPUT,
                                     EVERY_INTERNAL};
     uint32_t kind = kinds[draw(g->plain ? 5 : sizeof kinds)];
-    uint32_t place = g->records;
     if (g->looping && !g->plain && draw(3) != 0)
         kind = LOOP;
     if (g->busy && !g->plain && most > 12 && draw(8) != 0)
         kind = draw(6) == 0 ? OR : AND;
+    return kind;
+}
+
+/* A few records that wake others, or are woken. */
+static void grow_busy(struct growth *g, uint32_t most)
+{
+    if (most > 5 && g->loops < MOST_LOOPS && draw(3) == 0)
+        grow_renewed(g, most);
+    else if (draw(2) == 0)
+        grow_relay(g);
+    else
+        grow_trail(g, most);
+}
+
+static void grow(struct growth *g, uint32_t most)
+{
+    uint32_t kind = some_kind(g, most), place = g->records;
     if (g->busy && !g->plain && most >= 3 && most <= 12 && draw(2) == 0) {
-        if (most > 5 && g->loops < MOST_LOOPS && draw(3) == 0)
-            grow_renewed(g, most);
-        else if (draw(2) == 0)
-            grow_relay(g);
-        else
-            grow_trail(g, most);
+        grow_busy(g, most);
         return;
     }
     if (most < 3 || draw(16) == 0 ||
@@ -203,8 +227,9 @@ static void grow(struct growth *g, uint32_t most)
 
 uint32_t draw_table(uint8_t *table, uint32_t most)
 {
-    struct growth g = {table, 0, 1 + draw(4), 0, 0, draw(12) == 0,
-                       draw(6) == 0, draw(2) == 0};
+    struct growth g = {
+        table,        0,           1 + draw(4), 0, false, draw(12) == 0,
+        draw(6) == 0, draw(2) == 0};
     if (g.busy)
         g.events = 1 + draw(30);
     grow(&g, g.busy ? most : 1 + draw(most));
@@ -214,29 +239,31 @@ uint32_t draw_table(uint8_t *table, uint32_t most)
 size_t damage_table(uint8_t *table, size_t bytes)
 {
     uint32_t times = 1 + draw(3);
-    static const uint8_t likely[] = {0, 1, 2, 3, 10, 11, 13, 14, 15, 17, 18,
-                                     19, 20, 63, 64, 255};
+    static const uint8_t likely[] = {0,  1,  2,  3,  10, 11, 13, 14,
+                                     15, 17, 18, 19, 20, 63, 64, 255};
     for (; times > 0; times--) {
-        uint8_t *record = table + draw((uint32_t)bytes / 8) * 8;
+        uint8_t *record =
+            table + draw((uint32_t)bytes / RECORD_BYTES) * RECORD_BYTES;
         switch (draw(8)) {
         case 0:
-            return draw(2) ? bytes - draw((uint32_t)bytes) : bytes - 8;
+            return draw(2) ? bytes - draw((uint32_t)bytes)
+                           : bytes - RECORD_BYTES;
         case 1:
-            record[0] = (uint8_t)draw(21);
+            record[0] = (uint8_t)draw(KINDS + 1);
             break;
         case 2:
             record[2] = (uint8_t)(record[2] + draw(5) - 2);
             break;
         case 3: /* one leaf for another */
             if (record[0] <= BREAK)
-                record[0] = (uint8_t)draw(12);
+                record[0] = (uint8_t)draw(BREAK + 1);
             break;
         case 4: /* one construct of two for another */
             if (record[0] == SEQUENCE || record[0] >= AND)
                 record[0] = (uint8_t)(draw(3) == 0 ? SEQUENCE : AND + draw(2));
             break;
         default:
-            record[draw(8)] = likely[draw(16)];
+            record[draw(RECORD_BYTES)] = likely[draw(sizeof likely)];
             break;
         }
     }
@@ -244,15 +271,15 @@ size_t damage_table(uint8_t *table, size_t bytes)
 }
 
 /* Can a place in this construct wait? */
-static int waits(const uint8_t *table, uint32_t place)
+static bool waits(const uint8_t *table, uint32_t place)
 {
     uint32_t kind = kind_of(record_at(table, place));
     if (IN_KINDS(WAITING_KINDS, kind))
-        return 1;
+        return true;
     if (kind == LOOP)
         return waits(table, place + 1);
     if (kind < IF)
-        return 0;
+        return false;
     if (kind == OR)
         return waits(table, place + 1) &&
                waits(table, second_child(table, place));
@@ -263,7 +290,7 @@ static void mark_construct(const uint8_t *table, uint8_t *marks,
                            uint32_t place)
 {
     uint32_t kind = kind_of(record_at(table, place)), second;
-    int left, right;
+    bool left, right;
     if (IN_KINDS(WAITING_KINDS, kind)) {
         marks[place] = 1;
         return;
@@ -275,9 +302,9 @@ static void mark_construct(const uint8_t *table, uint8_t *marks,
     second = second_child(table, place);
     left = waits(table, place + 1);
     right = waits(table, second);
-    if (left && right && (kind == SEQUENCE || kind == IF ||
-                          (kind == AND && draw(5) == 0))) {
-        left = (int)draw(2);
+    if (left && right &&
+        (kind == SEQUENCE || kind == IF || (kind == AND && draw(5) == 0))) {
+        left = draw(2) == 1;
         right = !left;
     }
     if (left)

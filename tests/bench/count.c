@@ -1,5 +1,5 @@
 /* A plugin of qemu-user: counts the instructions that a program executes, and
- * prints "count N" on standard error when it ends.  What it uses of qemu's
+ * prints "count N" on standard error when it ends. What it uses of qemu's
  * plugin interface is declared here, so that no header is needed. */
 #include <inttypes.h>
 #include <stddef.h>

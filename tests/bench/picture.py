@@ -1,5 +1,5 @@
 """Draws the benchmark as an SVG picture: a bar for each row, and two charts of
-growth.  All lengths are in points; instructions are on a logarithmic scale."""
+growth. All lengths are in points; instructions are on a logarithmic scale."""
 import math
 import os
 from xml.sax.saxutils import escape

@@ -32,10 +32,10 @@ struct quick_checked quick_check(const uint8_t *table, size_t table_bytes)
 }
 
 /* Reads the marked program as the tree at rest: sets the state of each and, or
- * on its spine.  before[i] marks stand before place i.  0 where they do not
- * fit.  The right sides still to be read wait on a stack. */
-static int read_rest(const uint8_t *table, const uint8_t *before,
-                     uint8_t *state, size_t end)
+ * on its spine. before[i] marks stand before place i. False where they do
+ * not fit. The right sides still to be read wait on a stack. */
+static bool read_rest(const uint8_t *table, const uint8_t *before,
+                      uint8_t *state, size_t end)
 {
     struct {
         uint16_t place, end;
@@ -44,9 +44,10 @@ static int read_rest(const uint8_t *table, const uint8_t *before,
     for (;;) {
         uint32_t kind = kind_at(table, place);
         size_t second;
+        bool left; /* marked there */
         if (IN_KINDS(WAITING_KINDS, kind)) {
             if (top == 0)
-                return 1;
+                return true;
             place = waiting[--top].place;
             end = waiting[top].end;
             continue;
@@ -56,49 +57,44 @@ static int read_rest(const uint8_t *table, const uint8_t *before,
             continue;
         }
         second = second_child(table, place);
-        if (before[second] == before[place + 1]) { /* right alone */
-            if (kind == OR)
-                return 0;
-            state[place] = kind == AND ? ONE : IDLE;
-            place = second;
-            continue;
-        }
-        if (before[end] == before[second]) { /* left alone */
-            if (kind == OR)
-                return 0;
-            state[place] = kind == AND ? ONE : IDLE;
-        } else {
+        left = before[second] != before[place + 1];
+        if (left && before[end] != before[second]) {
             if (kind != AND && kind != OR)
-                return 0;
+                return false;
             state[place] = BOTH;
             waiting[top].place = (uint16_t)second;
             waiting[top++].end = (uint16_t)end;
+        } else {
+            if (kind == OR)
+                return false;
+            state[place] = kind == AND ? ONE : IDLE;
         }
-        end = second;
-        place++;
+        if (left)
+            end = second;
+        place = left ? place + 1 : second;
     }
 }
 
 /* Are the marked bytes among these eight 1 and on a kind that waits? */
-static inline int bytes_wait(const uint8_t *table, size_t place,
-                             uint64_t eight)
+static inline bool bytes_wait(const uint8_t *table, size_t place,
+                              uint64_t eight)
 {
     const uint64_t ones = 0x0101010101010101u;
     if ((eight & ~ones) != 0)
-        return 0;
+        return false;
     for (; eight != 0; eight &= eight - 1) {
         size_t at = place + (size_t)__builtin_ctzll(eight) / 8;
         if (!IN_KINDS(WAITING_KINDS, kind_at(table, at)))
-            return 0;
+            return false;
     }
-    return 1;
+    return true;
 }
 
-/* Stage 8 but for the length; finished says that there are no marks.  Counts
+/* Stage 8 but for the length; finished says that there are no marks. Counts
  * the marks before each place, eight places at a time; at most every second
  * record can be marked, so that the counts stay in a byte. */
-static int marks_fit(const uint8_t *table, size_t records,
-                     const uint8_t *marks, uint8_t *state, uint32_t *finished)
+static bool marks_fit(const uint8_t *table, size_t records,
+                      const uint8_t *marks, uint8_t *state, uint32_t *finished)
 {
     const uint64_t ones = 0x0101010101010101u;
     uint8_t before[1 + MOST_RECORDS + 8];
@@ -111,7 +107,7 @@ static int marks_fit(const uint8_t *table, size_t records,
         else
             memcpy(&eight, marks + place, records - place);
         if (!bytes_wait(table, place, eight))
-            return 0;
+            return false;
         sums = (eight + count) * ones;
         memcpy(before + 1 + place, &sums, sizeof sums);
         count = sums >> 56;
@@ -120,12 +116,12 @@ static int marks_fit(const uint8_t *table, size_t records,
     return count == 0 || read_rest(table, before, state, records);
 }
 
-/* Stages 1 to 9, and the plan of the program.  number 0: none fails. */
-static struct refusal prepare(
-    struct reaction *x, struct counts *c,
-    const uint8_t *table, size_t table_bytes, uint8_t *marks,
-    size_t marks_bytes, int32_t *variables, size_t variables_count,
-    int with_marks)
+/* Stages 1 to 9, and the plan of the program. number 0: none fails. */
+static struct refusal prepare(struct reaction *x, struct counts *c,
+                              const uint8_t *table, size_t table_bytes,
+                              uint8_t *marks, size_t marks_bytes,
+                              int32_t *variables, size_t variables_count,
+                              bool with_marks)
 {
     const struct refusal length = {8, 0}, variable = {9, 0}, none = {0, 0};
     if (!quick_plans(table, table_bytes, c, &x->plan))
@@ -158,8 +154,8 @@ static struct quick_answer refused(uint32_t number, uint32_t place)
 
 static struct quick_answer done(const struct reaction *x, const uint8_t *out)
 {
-    struct quick_answer answer = {0, 0, x->finished, x->highest, x->steps,
-                                  x->emitted, 0};
+    struct quick_answer answer = {
+        0, 0, x->finished, x->highest, x->steps, x->emitted, 0};
     answer.outputs = (uint64_t)(x->out - out) / RECORD_BYTES;
     return answer;
 }
@@ -169,11 +165,10 @@ static void add_stopping(uint64_t *sum, uint64_t more)
     *sum = *sum + more < more ? UINT64_MAX : *sum + more;
 }
 
-struct quick_answer quick_start(
-    const uint8_t *table, size_t table_bytes,
-    uint8_t *marks, size_t marks_bytes,
-    int32_t *variables, size_t variables_count,
-    uint8_t *out, size_t out_bytes)
+struct quick_answer quick_start(const uint8_t *table, size_t table_bytes,
+                                uint8_t *marks, size_t marks_bytes,
+                                int32_t *variables, size_t variables_count,
+                                uint8_t *out, size_t out_bytes)
 {
     struct reaction x;
     struct counts c;
@@ -190,13 +185,11 @@ struct quick_answer quick_start(
     return done(&x, out);
 }
 
-struct quick_answer quick_react(
-    const uint8_t *table, size_t table_bytes,
-    uint8_t *marks, size_t marks_bytes,
-    int32_t *variables, size_t variables_count,
-    uint32_t event, int32_t value,
-    uint8_t *out, size_t out_bytes,
-    struct quick_totals *totals)
+struct quick_answer quick_react(const uint8_t *table, size_t table_bytes,
+                                uint8_t *marks, size_t marks_bytes,
+                                int32_t *variables, size_t variables_count,
+                                uint32_t event, int32_t value, uint8_t *out,
+                                size_t out_bytes, struct quick_totals *totals)
 {
     struct reaction x;
     struct counts c;
@@ -242,13 +235,12 @@ static uint32_t take_events(struct reaction *x, const uint8_t *events,
     return i;
 }
 
-struct quick_answer quick_run_list(
-    const uint8_t *table, size_t table_bytes,
-    uint8_t *marks, size_t marks_bytes,
-    int32_t *variables, size_t variables_count,
-    const uint8_t *events, size_t events_bytes,
-    uint8_t *out, size_t out_bytes,
-    struct quick_totals *totals)
+struct quick_answer quick_run_list(const uint8_t *table, size_t table_bytes,
+                                   uint8_t *marks, size_t marks_bytes,
+                                   int32_t *variables, size_t variables_count,
+                                   const uint8_t *events, size_t events_bytes,
+                                   uint8_t *out, size_t out_bytes,
+                                   struct quick_totals *totals)
 {
     struct reaction x;
     struct counts c;
@@ -276,9 +268,8 @@ struct quick_answer quick_run_list(
     return answer;
 }
 
-struct quick_queried quick_query(
-    const uint8_t *table, size_t table_bytes,
-    const uint8_t *marks, size_t marks_bytes)
+struct quick_queried quick_query(const uint8_t *table, size_t table_bytes,
+                                 const uint8_t *marks, size_t marks_bytes)
 {
     struct quick_queried answer = {0, 0, 0, 0};
     uint8_t state[MOST_RECORDS];

@@ -1,4 +1,4 @@
-/* Stages 1 to 7 in one pass over the records, for speed.  A table is either
+/* Stages 1 to 7 in one pass over the records, for speed. A table is either
  * accepted here, or quick_refuse.c finds out why not. */
 #include "quick_parts.h"
 
@@ -7,13 +7,13 @@
 
 /* The loops and the every or fin around the record that is looked at. */
 struct around {
-    uint32_t loops;                  /* how many are open */
-    size_t loop_end[MOST_LOOPS];     /* the place behind each open loop */
+    uint32_t loops;              /* how many are open */
+    size_t loop_end[MOST_LOOPS]; /* the place behind each open loop */
     size_t loop_place[MOST_LOOPS];
-    size_t plain_end, every_end;     /* behind the last every or fin; every */
-    uint32_t found;                  /* all loops so far, open or not */
+    size_t plain_end, every_end; /* behind the last every or fin; every */
+    uint32_t found;              /* all loops so far, open or not */
     uint8_t found_place[MOST_RECORDS];
-    uint8_t own_break[MOST_RECORDS]; /* set for loops only */
+    bool own_break[MOST_RECORDS]; /* set for loops only */
 };
 
 static void close_loops(struct around *a, size_t place)
@@ -22,42 +22,42 @@ static void close_loops(struct around *a, size_t place)
         a->loops--;
 }
 
-static int open_loop(struct around *a, size_t place, uint32_t span)
+static bool open_loop(struct around *a, size_t place, uint32_t span)
 {
     close_loops(a, place);
     if (a->loops == MOST_LOOPS)
-        return 0;
+        return false;
     a->loop_end[a->loops] = place + span;
     a->loop_place[a->loops++] = place;
     a->found_place[a->found++] = (uint8_t)place;
-    a->own_break[place] = 0;
-    return 1;
+    a->own_break[place] = false;
+    return true;
 }
 
-static int note_break(struct around *a, size_t place)
+static bool note_break(struct around *a, size_t place)
 {
     close_loops(a, place);
     if (a->loops == 0)
-        return 0;
-    a->own_break[a->loop_place[a->loops - 1]] = 1;
-    return 1;
+        return false;
+    a->own_break[a->loop_place[a->loops - 1]] = true;
+    return true;
 }
 
-#define NEVER_AT_ONCE                                                   \
-    (KIND_BIT(AWAIT_INPUT) | KIND_BIT(BREAK) | KIND_BIT(EVERY_INPUT) |  \
+#define NEVER_AT_ONCE                                                         \
+    (KIND_BIT(AWAIT_INPUT) | KIND_BIT(BREAK) | KIND_BIT(EVERY_INPUT) |        \
      KIND_BIT(EVERY_INTERNAL) | KIND_BIT(FIN))
 #define BOTH_MUST_END (KIND_BIT(SEQUENCE) | KIND_BIT(AND))
 
-static int may_end_at_once(const uint8_t *table, const uint8_t *own_break,
-                           size_t place)
+static bool may_end_at_once(const uint8_t *table, const bool *own_break,
+                            size_t place)
 {
     for (;;) {
         uint32_t kind = kind_at(table, place), left;
-        int left_may;
+        bool left_may;
         if (IN_KINDS(NEVER_AT_ONCE, kind))
-            return 0;
+            return false;
         if (kind < IF)
-            return 1;
+            return true;
         if (kind == LOOP)
             return own_break[place];
         left = kind_at(table, place + 1);
@@ -71,12 +71,12 @@ static int may_end_at_once(const uint8_t *table, const uint8_t *own_break,
     }
 }
 
-static int loops_wait(const uint8_t *table, const struct around *a)
+static bool loops_wait(const uint8_t *table, const struct around *a)
 {
     for (uint32_t i = 0; i < a->found; i++)
         if (may_end_at_once(table, a->own_break, a->found_place[i] + 1u))
-            return 0;
-    return 1;
+            return false;
+    return true;
 }
 
 /* Span 1, a name from 1 to 63, and a number below 1, below 64, or any. */
@@ -84,15 +84,15 @@ static int loops_wait(const uint8_t *table, const struct around *a)
 #define NUMBER_ZERO 0xffffffff00000000u
 #define NUMBER_NAMES 0xffffffc000000000u
 
-static inline int is_leaf(uint64_t record, uint64_t number_bits)
+static inline bool is_leaf(uint64_t record, uint64_t number_bits)
 {
     return (record & (NAMED_LEAF | number_bits)) == 0x10000u &&
            (record & 0x3f00u) != 0;
 }
 
-/* One child, whose span fits.  The last record is known to have none. */
-static inline int has_child(const uint8_t *table, size_t place,
-                            uint64_t record)
+/* One child, whose span fits. The last record is known to have none. */
+static inline bool has_child(const uint8_t *table, size_t place,
+                             uint64_t record)
 {
     return span_of(record) == 1 + span_at(table, place + 1);
 }
@@ -100,8 +100,8 @@ static inline int has_child(const uint8_t *table, size_t place,
 /* The place of the second child where it stands in the table, both children's
  * spans fit, and the record has none of these bits; else 0. */
 static inline size_t fitting_second(const uint8_t *table, size_t records,
-                                      size_t place, uint64_t record,
-                                      uint64_t no_bits)
+                                    size_t place, uint64_t record,
+                                    uint64_t no_bits)
 {
     size_t second = second_child(table, place);
     if ((record & no_bits) != 0 || second >= records ||
@@ -113,15 +113,13 @@ static inline size_t fitting_second(const uint8_t *table, size_t records,
 #define NO_NAME_NO_NUMBER 0xffffffff0000ff00u
 #define NAME_0_TO_63_NO_NUMBER 0xffffffff0000c000u
 
-/* What the pass works on.  Without a plan none is made. */
+/* What the pass works on. Without a plan none is made. */
 struct pass {
     const uint8_t *table;
     struct counts *counts;
     struct around *around;
     struct plan *plan;
 };
-
-#define INLINE static inline __attribute__((always_inline))
 
 /* The places below that will follow, and how. */
 INLINE void follow(const struct pass *p, size_t child, enum after how,
@@ -147,7 +145,7 @@ INLINE void join(const struct pass *p, uint32_t row, uint64_t record,
     }
 }
 
-INLINE int pass_output(const struct pass *p, uint64_t record, size_t place)
+INLINE bool pass_output(const struct pass *p, uint64_t record, size_t place)
 {
     if (place < p->around->every_end)
         p->counts->inside++;
@@ -156,95 +154,95 @@ INLINE int pass_output(const struct pass *p, uint64_t record, size_t place)
     return is_leaf(record, NUMBER_NAMES);
 }
 
-INLINE int pass_await(const struct pass *p, uint64_t record, size_t place)
+INLINE bool pass_await(const struct pass *p, uint64_t record, size_t place)
 {
     if (!is_leaf(record, NUMBER_ZERO) || place < p->around->plain_end)
-        return 0;
+        return false;
     join(p, kind_of(record) - AWAIT_INPUT, record, place);
-    return 1;
+    return true;
 }
 
-INLINE int pass_emit(const struct pass *p, uint64_t record, size_t place)
+INLINE bool pass_emit(const struct pass *p, uint64_t record, size_t place)
 {
     p->counts->emits++;
     return is_leaf(record, NUMBER_ZERO) && place >= p->around->plain_end;
 }
 
-INLINE int pass_break(const struct pass *p, uint64_t record, size_t place)
+INLINE bool pass_break(const struct pass *p, uint64_t record, size_t place)
 {
     return record == BARE(BREAK) && place >= p->around->plain_end &&
            note_break(p->around, place);
 }
 
-INLINE int pass_if(const struct pass *p, uint64_t record, size_t place)
+INLINE bool pass_if(const struct pass *p, uint64_t record, size_t place)
 {
     size_t second = fitting_second(p->table, p->counts->records, place, record,
                                    NAME_0_TO_63_NO_NUMBER);
     if (second == 0)
-        return 0;
+        return false;
     follow_as(p, place + 1, place);
     follow_as(p, second, place);
-    return 1;
+    return true;
 }
 
-INLINE int pass_sequence(const struct pass *p, uint64_t record, size_t place)
+INLINE bool pass_sequence(const struct pass *p, uint64_t record, size_t place)
 {
     size_t second = fitting_second(p->table, p->counts->records, place, record,
                                    NO_NAME_NO_NUMBER);
     if (second == 0)
-        return 0;
+        return false;
     follow_as(p, second, place);
     follow(p, place + 1, THEN, second);
-    return 1;
+    return true;
 }
 
-INLINE int pass_trails(const struct pass *p, uint64_t record, size_t place,
-                       enum after left, enum after right)
+INLINE bool pass_trails(const struct pass *p, uint64_t record, size_t place,
+                        enum after left, enum after right)
 {
     size_t second = fitting_second(p->table, p->counts->records, place, record,
                                    NO_NAME_NO_NUMBER);
     if (second == 0 || place < p->around->plain_end)
-        return 0;
+        return false;
     follow(p, place + 1, left, place);
     follow(p, second, right, place);
-    return 1;
+    return true;
 }
 
-INLINE int pass_loop(const struct pass *p, uint64_t record, size_t place)
+INLINE bool pass_loop(const struct pass *p, uint64_t record, size_t place)
 {
     if (!has_child(p->table, place, record) ||
         (record & NO_NAME_NO_NUMBER) != 0 || place < p->around->plain_end ||
         !open_loop(p->around, place, span_of(record)))
-        return 0;
+        return false;
     if (p->around->loops > p->counts->deepest)
         p->counts->deepest = p->around->loops;
     follow(p, place + 1, AGAIN, place);
-    return 1;
+    return true;
 }
 
-INLINE int pass_every(const struct pass *p, uint64_t record, size_t place)
+INLINE bool pass_every(const struct pass *p, uint64_t record, size_t place)
 {
     if (!has_child(p->table, place, record) ||
         (record & NAME_0_TO_63_NO_NUMBER) != 0 || name_of(record) == 0 ||
         place < p->around->plain_end)
-        return 0;
+        return false;
     p->around->plain_end = p->around->every_end = place + span_of(record);
     join(p, kind_of(record) - EVERY_INPUT, record, place);
     follow(p, place + 1, EVERY_BODY, place);
-    return 1;
+    return true;
 }
 
-INLINE int pass_fin(const struct pass *p, uint64_t record, size_t place)
+INLINE bool pass_fin(const struct pass *p, uint64_t record, size_t place)
 {
     if (!has_child(p->table, place, record) ||
         (record & NO_NAME_NO_NUMBER) != 0 || place < p->around->plain_end)
-        return 0;
+        return false;
     p->around->plain_end = place + span_of(record);
     follow(p, place + 1, FIN_BODY, place);
-    return 1;
+    return true;
 }
 
-INLINE int pass_record(const struct pass *p, uint64_t record, size_t place)
+INLINE bool pass_record(const struct pass *p, uint64_t record, size_t place)
 {
     switch (kind_of(record)) {
     case NOTHING:
@@ -281,30 +279,29 @@ INLINE int pass_record(const struct pass *p, uint64_t record, size_t place)
         return pass_trails(p, record, place, LEFT_OF_OR, RIGHT_OF_OR);
     case FIN:
         return pass_fin(p, record, place);
-    default:
-        return 0;
     }
+    return false;
 }
 
-/* The pass.  It is compiled twice, with a plan and without. */
-INLINE int pass(const uint8_t *table, struct counts *counts,
-                struct around *around, struct plan *plan)
+/* The pass. It is compiled twice, with a plan and without. */
+INLINE bool pass(const uint8_t *table, struct counts *counts,
+                 struct around *around, struct plan *plan)
 {
     const struct pass p = {table, counts, around, plan};
     const size_t records = counts->records;
     for (size_t place = 0; place < records; place++)
         if (!pass_record(&p, record_at(table, place), place))
-            return 0;
-    return 1;
+            return false;
+    return true;
 }
 
 /* Stage 1, and of stage 2 that record 0 spans the table and that the last
  * record has no children. */
-static inline int begins_well(const uint8_t *table, size_t bytes,
-                              struct counts *c, struct around *a)
+static inline bool begins_well(const uint8_t *table, size_t bytes,
+                               struct counts *c, struct around *a)
 {
     if (bytes - 1 >= MOST_RECORDS * RECORD_BYTES || bytes % RECORD_BYTES != 0)
-        return 0;
+        return false;
     c->records = bytes / RECORD_BYTES;
     c->emits = c->deepest = c->outside = c->inside = 0;
     a->loops = a->found = 0;
@@ -313,19 +310,19 @@ static inline int begins_well(const uint8_t *table, size_t bytes,
            kind_at(table, c->records - 1) < IF;
 }
 
-int quick_accepts(const uint8_t *table, size_t bytes, struct counts *c)
+bool quick_accepts(const uint8_t *table, size_t bytes, struct counts *c)
 {
     struct around a;
-    return begins_well(table, bytes, c, &a) &&
-           pass(table, c, &a, NULL) && loops_wait(table, &a);
+    return begins_well(table, bytes, c, &a) && pass(table, c, &a, NULL) &&
+           loops_wait(table, &a);
 }
 
-int quick_plans(const uint8_t *table, size_t bytes, struct counts *c,
-                struct plan *plan)
+bool quick_plans(const uint8_t *table, size_t bytes, struct counts *c,
+                 struct plan *plan)
 {
     struct around a;
     if (!begins_well(table, bytes, c, &a))
-        return 0;
+        return false;
     plan->after[0] = PROGRAM << 8;
     memset(plan->first_waiter, 0, sizeof plan->first_waiter);
     return pass(table, c, &a, plan) && loops_wait(table, &a);

@@ -2,6 +2,7 @@
 #ifndef QUICK_PARTS_H
 #define QUICK_PARTS_H
 
+#include <stdbool.h>
 #include <stddef.h>
 #include <stdint.h>
 #include <string.h>
@@ -16,17 +17,38 @@ enum {
 };
 
 enum kind {
-    NOTHING, SET, ADD, COPY, SUBTRACT, LESS, DIVIDE, OUTPUT, AWAIT_INPUT,
-    AWAIT_INTERNAL, EMIT, BREAK, IF, SEQUENCE, LOOP, EVERY_INPUT,
-    EVERY_INTERNAL, AND, OR, FIN, KINDS
+    NOTHING,
+    SET,
+    ADD,
+    COPY,
+    SUBTRACT,
+    LESS,
+    DIVIDE,
+    OUTPUT,
+    AWAIT_INPUT,
+    AWAIT_INTERNAL,
+    EMIT,
+    BREAK,
+    IF,
+    SEQUENCE,
+    LOOP,
+    EVERY_INPUT,
+    EVERY_INTERNAL,
+    AND,
+    OR,
+    FIN,
+    KINDS
 };
+
+/* For what is taken apart only to be read: it stays one function. */
+#define INLINE static inline __attribute__((always_inline))
 
 /* A set of kinds, and whether a kind is in it. */
 #define KIND_BIT(kind) (1u << (kind))
 #define IN_KINDS(set, kind) (((set) >> (kind)) & 1u)
 
-#define WAITING_KINDS                                              \
-    (KIND_BIT(AWAIT_INPUT) | KIND_BIT(AWAIT_INTERNAL) |            \
+#define WAITING_KINDS                                                         \
+    (KIND_BIT(AWAIT_INPUT) | KIND_BIT(AWAIT_INTERNAL) |                       \
      KIND_BIT(EVERY_INPUT) | KIND_BIT(EVERY_INTERNAL) | KIND_BIT(FIN))
 #define PLAIN_KINDS (0xffu | KIND_BIT(IF) | KIND_BIT(SEQUENCE))
 
@@ -84,15 +106,15 @@ static inline size_t second_child(const uint8_t *table, size_t place)
 /* What follows when a construct has become @nop: one of these in the high
  * byte, a place in the low byte. */
 enum after {
-    THEN = 0,     /* the left of a sequence: on at the sequence's right */
-    AGAIN,        /* the body of the loop at the place */
-    LEFT_OF_AND,  /* one side of the and, the or at the place */
+    THEN = 0,    /* the left of a sequence: on at the sequence's right */
+    AGAIN,       /* the body of the loop at the place */
+    LEFT_OF_AND, /* one side of the and, the or at the place */
     RIGHT_OF_AND,
     LEFT_OF_OR,
     RIGHT_OF_OR,
-    EVERY_BODY,   /* the body of the every at the place */
-    FIN_BODY,     /* the body of a fin, run by a clear */
-    PROGRAM       /* the program itself */
+    EVERY_BODY, /* the body of the every at the place */
+    FIN_BODY,   /* the body of a fin, run by a clear */
+    PROGRAM     /* the program itself */
 };
 
 /* What the check counts: N, E, D, P, Q of the announced numbers. */
@@ -101,7 +123,7 @@ struct counts {
     uint32_t emits, deepest, outside, inside;
 };
 
-/* What a reaction needs to know of a program beside its records.  Places that
+/* What a reaction needs to know of a program beside its records. Places that
  * wait for one event form a chain of numbers place + 1 that ends with 0;
  * row 0 is of input events, row 1 of internal ones. */
 struct plan {
@@ -114,18 +136,18 @@ struct refusal {
     uint32_t number, place;
 };
 
-/* quick_check.c: stages 1 to 7 in one pass.  1 where the table is accepted;
+/* quick_check.c: stages 1 to 7 in one pass. True where the table is accepted;
  * otherwise the contents of counts and plan mean nothing. */
-int quick_accepts(const uint8_t *table, size_t bytes, struct counts *counts);
-int quick_plans(const uint8_t *table, size_t bytes, struct counts *counts,
-                struct plan *plan);
+bool quick_accepts(const uint8_t *table, size_t bytes, struct counts *counts);
+bool quick_plans(const uint8_t *table, size_t bytes, struct counts *counts,
+                 struct plan *plan);
 
 /* quick_refuse.c: which stage fails, and where, once one is known to. */
 struct refusal quick_why_table(const uint8_t *table, size_t bytes);
 struct refusal quick_why_marks(const uint8_t *table, size_t records,
                                const uint8_t *marks);
 
-/* A reaction's state of a record.  At rest there are BOTH and ONE only. */
+/* A reaction's state of a record. At rest there are BOTH and ONE only. */
 enum state {
     IDLE,
     BOTH,    /* an @and or @or */
@@ -135,7 +157,7 @@ enum state {
     RESUMED  /* an emit: @canrun in its place */
 };
 
-/* Entries of the stack of canruns.  A record is entered at most D + 1 times in
+/* Entries of the stack of canruns. A record is entered at most D + 1 times in
  * a reaction, so that many are ever put on it, and one below them all. */
 enum { MOST_CANRUNS = MOST_RECORDS * (MOST_LOOPS + 1) + 1 };
 

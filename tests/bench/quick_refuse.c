@@ -1,4 +1,4 @@
-/* Why a table or marks are refused: stage by stage as the scope paper lists
+/* Why a table or marks are refused: stage by stage as document 01 lists
  * them, each over the whole table, without regard to speed. */
 #include "quick_parts.h"
 
@@ -17,33 +17,32 @@ static uint32_t children(uint32_t kind)
 }
 
 /* Stage 2 of one record, by the spans that its children declare. */
-static int shape_is_right(const uint8_t *table, size_t records,
-                          size_t place)
+static bool shape_is_right(const uint8_t *table, size_t records, size_t place)
 {
     uint64_t record = record_at(table, place);
     uint32_t left = children(kind_of(record)), span = 1;
     size_t next = place + 1;
     if (kind_of(record) >= KINDS)
-        return 0;
+        return false;
     for (; left > 0; left--) {
         if (next >= records)
-            return 0;
+            return false;
         span += span_of(record_at(table, next));
         next = place + span;
     }
     return span_of(record) == span && (place != 0 || span == records);
 }
 
-static int in_range(uint64_t record)
+static bool in_range(uint64_t record)
 {
     uint32_t kind = kind_of(record), name = name_of(record);
-    int named = (kind >= SET && kind <= EMIT) || kind == EVERY_INPUT ||
-                kind == EVERY_INTERNAL;
+    bool named = (kind >= SET && kind <= EMIT) || kind == EVERY_INPUT ||
+                 kind == EVERY_INTERNAL;
     if (named ? name < 1 || name > LAST_NAME
               : name > (kind == IF ? LAST_NAME : 0))
-        return 0;
+        return false;
     if (kind == SET || kind == ADD)
-        return 1;
+        return true;
     return number_of(record) <=
            (uint32_t)(kind >= COPY && kind <= OUTPUT ? LAST_NAME : 0);
 }
@@ -60,18 +59,18 @@ static uint32_t around(const uint8_t *table, uint32_t kinds, size_t place)
     return found;
 }
 
-static int has_own_break(const uint8_t *table, size_t loop)
+static bool has_own_break(const uint8_t *table, size_t loop)
 {
     uint32_t loops = around(table, KIND_BIT(LOOP), loop) + 1;
     size_t end = loop + span_at(table, loop);
     for (size_t place = loop + 1; place < end; place++)
         if (kind_of(record_at(table, place)) == BREAK &&
             around(table, KIND_BIT(LOOP), place) == loops)
-            return 1;
-    return 0;
+            return true;
+    return false;
 }
 
-static int may_end(const uint8_t *table, size_t place)
+static bool may_end(const uint8_t *table, size_t place)
 {
     uint32_t kind = kind_of(record_at(table, place));
     if (kind == LOOP)
@@ -86,12 +85,12 @@ static int may_end(const uint8_t *table, size_t place)
 }
 
 /* Does the record at a place fail this stage, 2 to 7? */
-static int fails(const uint8_t *table, size_t records, uint32_t stage,
-                 size_t place)
+static bool fails(const uint8_t *table, size_t records, uint32_t stage,
+                  size_t place)
 {
     uint32_t kind = kind_of(record_at(table, place));
-    uint32_t plain = KIND_BIT(EVERY_INPUT) | KIND_BIT(EVERY_INTERNAL) |
-                     KIND_BIT(FIN);
+    uint32_t plain =
+        KIND_BIT(EVERY_INPUT) | KIND_BIT(EVERY_INTERNAL) | KIND_BIT(FIN);
     switch (stage) {
     case 2:
         return !shape_is_right(table, records, place);
@@ -122,23 +121,23 @@ struct refusal quick_why_table(const uint8_t *table, size_t bytes)
     return refusal(0, 0);
 }
 
-static int marked(const uint8_t *marks, size_t from, size_t end)
+static bool marked(const uint8_t *marks, size_t from, size_t end)
 {
     for (; from < end; from++)
         if (marks[from] != 0)
-            return 1;
-    return 0;
+            return true;
+    return false;
 }
 
-static int construct_fits(const uint8_t *table, const uint8_t *marks,
-                          size_t place)
+static bool construct_fits(const uint8_t *table, const uint8_t *marks,
+                           size_t place)
 {
     uint64_t record = record_at(table, place);
     uint32_t kind = kind_of(record);
     size_t second;
-    int left, right;
+    bool left, right;
     if (kind != SEQUENCE && kind != IF && kind != OR)
-        return 1;
+        return true;
     second = second_child(table, place);
     left = marked(marks, place + 1, second);
     right = marked(marks, second, place + span_of(record));
@@ -148,13 +147,12 @@ static int construct_fits(const uint8_t *table, const uint8_t *marks,
 struct refusal quick_why_marks(const uint8_t *table, size_t records,
                                const uint8_t *marks)
 {
-    size_t place;
-    for (place = 0; place < records; place++)
+    for (size_t place = 0; place < records; place++)
         if (marks[place] > 1 ||
             (marks[place] == 1 &&
              !IN_KINDS(WAITING_KINDS, kind_of(record_at(table, place)))))
             return refusal(8, place);
-    for (place = 0; place < records; place++)
+    for (size_t place = 0; place < records; place++)
         if (!construct_fits(table, marks, place))
             return refusal(8, place);
     return refusal(0, 0);

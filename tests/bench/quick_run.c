@@ -1,11 +1,11 @@
-/* The rules of a reaction.  The tree is kept as one state number for each
+/* The rules of a reaction. The tree is kept as one state number for each
  * record, changed in place; steps are counted as the rules would take them.
  *
  * What can step next is always the leftmost of: the @canruns of the present
- * level, and the places woken and not yet gone on.  Left to right is the order
- * of places.  The @canruns are a stack: a new one stands left of all others of
+ * level, and the places woken and not yet gone on. Left to right is the order
+ * of places. The @canruns are a stack: a new one stands left of all others of
  * its level, and left of all the woken, since it is made where the trails run.
- * The woken are a set of bits.  A place that a clear has taken away is still
+ * The woken are a set of bits. A place that a clear has taken away is still
  * on the stack or in the set, but its state says so. */
 #include "quick_parts.h"
 
@@ -18,27 +18,35 @@ static inline uint32_t as_value(const struct reaction *x, uint32_t w)
     return (uint32_t)x->variables[w];
 }
 
-static inline int32_t divide(int32_t v, int32_t w)
+static inline uint32_t is_less(const struct reaction *x, uint32_t v,
+                               uint32_t w)
 {
-    if (w == 0)
+    return x->variables[v] < x->variables[w];
+}
+
+/* Towards zero; by 0 it gives 0. */
+static inline uint32_t quotient(const struct reaction *x, uint32_t v,
+                                uint32_t w)
+{
+    int32_t by = x->variables[w];
+    if (by == 0)
         return 0;
-    if (w == -1)
-        return (int32_t)(0u - (uint32_t)v);
-    return v / w;
+    if (by == -1)
+        return 0u - as_value(x, v);
+    return (uint32_t)(x->variables[v] / by);
 }
 
 static inline void put_output(struct reaction *x, uint64_t record)
 {
-    uint64_t output = name_of(record) |
-                      (uint64_t)as_value(x, number_of(record)) << 32;
+    uint64_t output =
+        name_of(record) | (uint64_t)as_value(x, number_of(record)) << 32;
     memcpy(x->out, &output, sizeof output);
     x->out += sizeof output;
 }
 
 /* Runs clear of the construct at a place to its end: one step joins the two
  * sides of each @and and @or in it, and each fin's body runs. */
-static __attribute__((noinline)) void clear(struct reaction *x,
-                                            size_t place)
+static __attribute__((noinline)) void clear(struct reaction *x, size_t place)
 {
     size_t end = place + span_at(x->table, place);
     while (place < end) {
@@ -108,7 +116,7 @@ static size_t leave_construct(struct reaction *x, size_t after)
     }
 }
 
-/* The construct at a place has become @nop.  Returns the place where its trail
+/* The construct at a place has become @nop. Returns the place where its trail
  * goes on, or NOWHERE. */
 static inline size_t leave(struct reaction *x, size_t place)
 {
@@ -119,7 +127,7 @@ static inline size_t leave(struct reaction *x, size_t place)
     return after;
 }
 
-/* The construct at a place has become break.  What follows the right of a
+/* The construct at a place has become break. What follows the right of a
  * sequence is what follows the sequence. */
 static size_t break_out(struct reaction *x, size_t place)
 {
@@ -162,10 +170,9 @@ static inline void put_canrun(struct reaction *x, size_t place,
     x->canruns[++x->top] = x->level << 8 | (uint32_t)place;
 }
 
-/* An emit and the push of its event.  Where nobody can run on the new level,
+/* An emit and the push of its event. Where nobody can run on the new level,
  * the pop and the @canrun are taken at once. */
-static inline size_t emit(struct reaction *x, size_t place,
-                            uint32_t event)
+static inline size_t emit(struct reaction *x, size_t place, uint32_t event)
 {
     x->emitted++;
     x->steps += 2;
@@ -181,79 +188,89 @@ static inline size_t emit(struct reaction *x, size_t place,
     return NOWHERE;
 }
 
-/* Runs a trail from the construct at a place on until it is blocked or has
- * come to its end.  Entering a sequence is entering its left. */
-static inline __attribute__((always_inline)) void run_trail(
-    struct reaction *x, size_t place)
+/* Each of these takes one construct, and answers as leave. */
+static inline size_t assign(struct reaction *x, size_t place, uint32_t name,
+                            uint32_t value)
 {
-    int32_t *const variables = x->variables;
+    x->variables[name] = (int32_t)value;
+    x->steps++;
+    return leave(x, place);
+}
+
+static inline size_t take_output(struct reaction *x, size_t place,
+                                 uint64_t record)
+{
+    put_output(x, record);
+    x->steps++;
+    return leave(x, place);
+}
+
+static inline size_t take_if(struct reaction *x, size_t place, uint32_t name)
+{
+    x->steps++;
+    return x->variables[name] != 0 ? place + 1 : second_child(x->table, place);
+}
+
+static inline size_t take_and_or(struct reaction *x, size_t place)
+{
+    x->steps++;
+    x->state[place] = BOTH;
+    put_canrun(x, second_child(x->table, place), PENDING);
+    return place + 1;
+}
+
+INLINE size_t take(struct reaction *x, size_t place, uint64_t record)
+{
+    const uint32_t name = name_of(record), number = number_of(record);
+    switch (kind_of(record)) {
+    case NOTHING:
+        return leave(x, place);
+    case SET:
+        return assign(x, place, name, number);
+    case ADD:
+        return assign(x, place, name, as_value(x, name) + number);
+    case COPY:
+        return assign(x, place, name, as_value(x, number));
+    case SUBTRACT:
+        return assign(x, place, name, as_value(x, name) - as_value(x, number));
+    case LESS:
+        return assign(x, place, name, is_less(x, name, number));
+    case DIVIDE:
+        return assign(x, place, name, quotient(x, name, number));
+    case OUTPUT:
+        return take_output(x, place, record);
+    case EMIT:
+        return emit(x, place, name);
+    case BREAK:
+        return break_out(x, place);
+    case IF:
+        return take_if(x, place, name);
+    case LOOP:
+        x->steps++;
+        return place + 1;
+    case AND:
+    case OR:
+        return take_and_or(x, place);
+    default: /* an await, every or fin */
+        x->marks[place] = 1;
+        return NOWHERE;
+    }
+}
+
+/* Runs a trail from the construct at a place on until it is blocked or has
+ * come to its end. Entering a sequence is entering its left. */
+INLINE void run_trail(struct reaction *x, size_t place)
+{
     while (place != NOWHERE) {
         uint64_t record = record_at(x->table, place);
-        uint32_t name, number;
         while (kind_of(record) == SEQUENCE)
             record = record_at(x->table, ++place);
-        name = name_of(record);
-        number = number_of(record);
-        switch (kind_of(record)) {
-        case NOTHING:
-            place = leave(x, place);
-            continue;
-        case SET:
-            variables[name] = (int32_t)number;
-            break;
-        case ADD:
-            variables[name] = (int32_t)(as_value(x, name) + number);
-            break;
-        case COPY:
-            variables[name] = variables[number];
-            break;
-        case SUBTRACT:
-            variables[name] =
-                (int32_t)(as_value(x, name) - as_value(x, number));
-            break;
-        case LESS:
-            variables[name] = variables[name] < variables[number];
-            break;
-        case DIVIDE:
-            variables[name] = divide(variables[name], variables[number]);
-            break;
-        case OUTPUT:
-            put_output(x, record);
-            break;
-        case EMIT:
-            place = emit(x, place, name);
-            continue;
-        case BREAK:
-            place = break_out(x, place);
-            continue;
-        case IF:
-            x->steps++;
-            place = variables[name] != 0 ? place + 1
-                                         : second_child(x->table, place);
-            continue;
-        case LOOP:
-            x->steps++;
-            place++;
-            continue;
-        case AND:
-        case OR:
-            x->steps++;
-            x->state[place] = BOTH;
-            put_canrun(x, second_child(x->table, place), PENDING);
-            place++;
-            continue;
-        default: /* an await, every or fin */
-            x->marks[place] = 1;
-            return;
-        }
-        x->steps++;
-        place = leave(x, place);
+        place = take(x, place, record);
     }
 }
 
 /* A trail within a clear. */
-static __attribute__((noinline)) void enter(struct reaction *x,
-                                            size_t place)
+static __attribute__((noinline)) void enter(struct reaction *x, size_t place)
 {
     run_trail(x, place);
 }

@@ -1,11 +1,10 @@
-/* The programs and events of the benchmark's rows.  After its 100 events a
+/* The programs and events of the benchmark's rows. After its 100 events a
  * program waits where it waited before them, so that each round of events
  * costs the same. */
 #include <stdio.h>
 #include <stdlib.h>
 #include <string.h>
 
-#include "quick_parts.h"
 #include "work.h"
 
 enum { IGNORED_EVENT = 63 };
@@ -55,7 +54,7 @@ static void then(struct work *w, uint32_t kind, uint32_t name, int32_t number)
     put_record(w, kind, name, number);
 }
 
-/* Pieces of programs.  A channel has its own events (8c + 1 on), variables
+/* Pieces of programs. A channel has its own events (8c + 1 on), variables
  * (10c + 1 on), outputs (10c + 1 on) and one internal event (c + 1). */
 static uint32_t input(uint32_t c, uint32_t event)
 {
@@ -214,7 +213,7 @@ static void full_events(struct work *w)
     }
 }
 
-/* full: 256 records.  The six pieces in three channels, two channels of
+/* full: 256 records. The six pieces in three channels, two channels of
  * contacts, a second report and two fins. */
 static void make_full(struct work *w)
 {
@@ -237,7 +236,7 @@ static void make_full(struct work *w)
 }
 
 /* 4 * levels + 4 records: event 1 wakes the first trail, which emits; each
- * trail woken emits the next event; the last one puts out.  Then all have
+ * trail woken emits the next event; the last one puts out. Then all have
  * ended, and the loop lets all wait again. */
 static void put_chain(struct work *w, uint32_t levels)
 {
@@ -285,7 +284,7 @@ static void make_records(struct work *w, uint32_t records)
     put_record(w, OUTPUT, 1, 1);
 }
 
-static int make_program(struct work *w, const char *name)
+static bool make_program(struct work *w, const char *name)
 {
     uint32_t number = 0;
     if (strncmp(name, "small", 5) == 0) {
@@ -305,21 +304,21 @@ static int make_program(struct work *w, const char *name)
                number <= 50) {
         make_levels(w, number);
     } else {
-        return 0;
+        return false;
     }
-    return 1;
+    return true;
 }
 
-int make_work(struct work *w, const char *name)
+bool make_work(struct work *w, const char *name)
 {
     memset(w, 0, sizeof *w);
     if (!make_program(w, name))
-        return 0;
+        return false;
     end_table(w);
     if (strstr(name, "-ignored") != NULL) {
         w->event_count = 0;
         fill_events(w, IGNORED_EVENT);
     }
     fill_events(w, 1);
-    return 1;
+    return true;
 }

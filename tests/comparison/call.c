@@ -5,14 +5,14 @@
 #include "landarbeso.h"
 
 #define BYTES(side, slice) (side)[slice].bytes, (side)[slice].count
-#define NUMBERS(side) \
+#define NUMBERS(side)                                                         \
     (int32_t *)(void *)(side)[VARIABLE].bytes, (side)[VARIABLE].count
 
 static const char *const call_names[CALLS] = {
     "check", "start", "react", "run_list", "query", "remaining"};
 static const char *const field_names[FIELDS] = {
-    "the answer's refused", "the answer's place", "the answer's finished",
-    "the answer's highest", "the answer's steps", "the answer's emitted",
+    "the answer's refused", "the answer's place",  "the answer's finished",
+    "the answer's highest", "the answer's steps",  "the answer's emitted",
     "the answer's outputs", "the answer's number", "the answer's lowest",
     "the answer's records"};
 
@@ -26,7 +26,7 @@ const char *field_name(uint32_t field)
     return field_names[field];
 }
 
-/* Which slices a call is lent, as bits. */
+/* Is a call lent this slice? */
 bool takes(uint32_t kind, uint32_t slice)
 {
     static const uint32_t slices[CALLS] = {
@@ -43,25 +43,49 @@ bool takes(uint32_t kind, uint32_t slice)
 /* Which refusals a call can give, as bits; 0 is none. */
 bool can_refuse(uint32_t kind, uint32_t refusal)
 {
-    static const uint32_t refusals[CALLS] = {0x0ff, 0xbff, 0xfff,
-                                             0x17ff, 0x1ff, 0x9ff};
-    return refusal < 32 && (refusals[kind] >> refusal & 1u);
+    static const uint32_t refusals[CALLS] = {
+        0x0ff,  /* the check 1 to 7 */
+        0xbff,  /* a start 1 to 9, 11 */
+        0xfff,  /* a reaction 1 to 11 */
+        0x17ff, /* a list 1 to 10, 12 */
+        0x1ff,  /* a query 1 to 8 */
+        0x9ff}; /* the remaining program 1 to 8, 11 */
+    return refusal < INDEPENDENT_REFUSALS && (refusals[kind] >> refusal & 1u);
 }
 
-#define FROM_CHECKED(to, from)                     \
-    do {                                           \
-        (to)->field[REFUSED] = (from).refused;     \
-        (to)->field[PLACE] = (from).place;         \
-        (to)->field[EMITTED] = (from).emitted;     \
-        (to)->field[HIGHEST] = (from).highest;     \
-        (to)->field[STEPS] = (from).steps;         \
-        (to)->field[OUTPUTS] = (from).outputs;     \
+/* The fields of an answer, by either side's struct. */
+#define FROM_REFUSAL(to, from)                                                \
+    do {                                                                      \
+        (to)->field[REFUSED] = (from).refused;                                \
+        (to)->field[PLACE] = (from).place;                                    \
     } while (0)
 
-#define FROM_ANSWER(to, from)                      \
-    do {                                           \
-        FROM_CHECKED(to, from);                    \
-        (to)->field[FINISHED] = (from).finished;   \
+#define FROM_CHECKED(to, from)                                                \
+    do {                                                                      \
+        FROM_REFUSAL(to, from);                                               \
+        (to)->field[EMITTED] = (from).emitted;                                \
+        (to)->field[HIGHEST] = (from).highest;                                \
+        (to)->field[STEPS] = (from).steps;                                    \
+        (to)->field[OUTPUTS] = (from).outputs;                                \
+    } while (0)
+
+#define FROM_ANSWER(to, from)                                                 \
+    do {                                                                      \
+        FROM_CHECKED(to, from);                                               \
+        (to)->field[FINISHED] = (from).finished;                              \
+    } while (0)
+
+#define FROM_QUERIED(to, from)                                                \
+    do {                                                                      \
+        FROM_REFUSAL(to, from);                                               \
+        (to)->field[NUMBER] = (from).number;                                  \
+        (to)->field[LOWEST] = (from).lowest;                                  \
+    } while (0)
+
+#define FROM_WRITTEN(to, from)                                                \
+    do {                                                                      \
+        FROM_REFUSAL(to, from);                                               \
+        (to)->field[RECORDS] = (from).records;                                \
     } while (0)
 
 static void do_check(struct lending *l, struct difference *d)
@@ -74,12 +98,12 @@ static void do_check(struct lending *l, struct difference *d)
 
 static void do_start(struct lending *l, struct difference *d)
 {
-    struct landarbeso_answer a = landarbeso_start(
-        BYTES(l->ours, TABLE), BYTES(l->ours, MARKS), NUMBERS(l->ours),
-        BYTES(l->ours, OUT));
-    struct independent_answer b = independent_start(
-        BYTES(l->theirs, TABLE), BYTES(l->theirs, MARKS), NUMBERS(l->theirs),
-        BYTES(l->theirs, OUT));
+    struct landarbeso_answer a =
+        landarbeso_start(BYTES(l->ours, TABLE), BYTES(l->ours, MARKS),
+                         NUMBERS(l->ours), BYTES(l->ours, OUT));
+    struct independent_answer b =
+        independent_start(BYTES(l->theirs, TABLE), BYTES(l->theirs, MARKS),
+                          NUMBERS(l->theirs), BYTES(l->theirs, OUT));
     FROM_ANSWER(&d->ours, a);
     FROM_ANSWER(&d->theirs, b);
 }
@@ -87,10 +111,10 @@ static void do_start(struct lending *l, struct difference *d)
 static void do_react(struct lending *l, struct difference *d,
                      const struct call *c)
 {
-    struct landarbeso_answer a = landarbeso_react(
-        BYTES(l->ours, TABLE), BYTES(l->ours, MARKS), NUMBERS(l->ours),
-        c->event, c->value, BYTES(l->ours, OUT),
-        (void *)l->ours[TOTALS].bytes);
+    struct landarbeso_answer a =
+        landarbeso_react(BYTES(l->ours, TABLE), BYTES(l->ours, MARKS),
+                         NUMBERS(l->ours), c->event, c->value,
+                         BYTES(l->ours, OUT), (void *)l->ours[TOTALS].bytes);
     struct independent_answer b = independent_react(
         BYTES(l->theirs, TABLE), BYTES(l->theirs, MARKS), NUMBERS(l->theirs),
         c->event, c->value, BYTES(l->theirs, OUT),
@@ -119,29 +143,19 @@ static void do_query(struct lending *l, struct difference *d)
         landarbeso_query(BYTES(l->ours, TABLE), BYTES(l->ours, MARKS));
     struct independent_query b =
         independent_query(BYTES(l->theirs, TABLE), BYTES(l->theirs, MARKS));
-    d->ours.field[REFUSED] = a.refused;
-    d->ours.field[PLACE] = a.place;
-    d->ours.field[NUMBER] = a.number;
-    d->ours.field[LOWEST] = a.lowest;
-    d->theirs.field[REFUSED] = b.refused;
-    d->theirs.field[PLACE] = b.place;
-    d->theirs.field[NUMBER] = b.number;
-    d->theirs.field[LOWEST] = b.lowest;
+    FROM_QUERIED(&d->ours, a);
+    FROM_QUERIED(&d->theirs, b);
 }
 
 static void do_remaining(struct lending *l, struct difference *d)
 {
     struct landarbeso_written a = landarbeso_remaining(
         BYTES(l->ours, TABLE), BYTES(l->ours, MARKS), BYTES(l->ours, OUT));
-    struct independent_remaining b = independent_remaining(
-        BYTES(l->theirs, TABLE), BYTES(l->theirs, MARKS),
-        BYTES(l->theirs, OUT));
-    d->ours.field[REFUSED] = a.refused;
-    d->ours.field[PLACE] = a.place;
-    d->ours.field[RECORDS] = a.records;
-    d->theirs.field[REFUSED] = b.refused;
-    d->theirs.field[PLACE] = b.place;
-    d->theirs.field[RECORDS] = b.records;
+    struct independent_remaining b =
+        independent_remaining(BYTES(l->theirs, TABLE), BYTES(l->theirs, MARKS),
+                              BYTES(l->theirs, OUT));
+    FROM_WRITTEN(&d->ours, a);
+    FROM_WRITTEN(&d->theirs, b);
 }
 
 void call_both(struct lending *l, struct difference *d, const struct call *c)

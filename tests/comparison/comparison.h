@@ -2,7 +2,7 @@
  * share.
  *
  * A scenario is a program with all that is lent to begin with, and a row of
- * calls that go on from each other.  It is data, so that it can be drawn from
+ * calls that go on from each other. It is data, so that it can be drawn from
  * a seed, shrunk and printed. */
 #ifndef COMPARISON_H
 #define COMPARISON_H
@@ -12,6 +12,9 @@
 #include <stdint.h>
 
 #include "independent.h"
+
+/* How many entries an array has. */
+#define COUNT(row) (sizeof(row) / sizeof *(row))
 
 enum {
     RECORD_BYTES = 8,
@@ -30,9 +33,27 @@ enum {
 };
 
 enum kind {
-    NOTHING, SET, ADD, COPY, SUBTRACT, LESS, DIVIDE, OUTPUT, AWAIT_INPUT,
-    AWAIT_INTERNAL, EMIT, BREAK, IF, SEQUENCE, LOOP, EVERY_INPUT,
-    EVERY_INTERNAL, AND, OR, FIN, KINDS
+    NOTHING,
+    SET,
+    ADD,
+    COPY,
+    SUBTRACT,
+    LESS,
+    DIVIDE,
+    OUTPUT,
+    AWAIT_INPUT,
+    AWAIT_INTERNAL,
+    EMIT,
+    BREAK,
+    IF,
+    SEQUENCE,
+    LOOP,
+    EVERY_INPUT,
+    EVERY_INTERNAL,
+    AND,
+    OR,
+    FIN,
+    KINDS
 };
 
 enum call_kind { CHECK, START, REACT, RUN_LIST, QUERY, REMAINING, CALLS };
@@ -41,7 +62,7 @@ enum slice { TABLE, MARKS, VARIABLE, EVENTS, OUT, TOTALS, SLICES };
 /* A slice's length: the right one, a wrong one. */
 enum how_long {
     RIGHT,
-    OFF,       /* right + off bytes (variables: right + off variables) */
+    OFF, /* right + off bytes (variables: right + off variables) */
     ZERO,
     ZERO_NULL, /* with a null pointer */
     HUGE_MORE, /* right + 2^32; of the room 2^32 */
@@ -91,8 +112,17 @@ struct scenario {
 
 /* The answers of all calls, field for field. */
 enum field {
-    REFUSED, PLACE, FINISHED, HIGHEST, STEPS, EMITTED, OUTPUTS, NUMBER, LOWEST,
-    RECORDS, FIELDS
+    REFUSED,
+    PLACE,
+    FINISHED,
+    HIGHEST,
+    STEPS,
+    EMITTED,
+    OUTPUTS,
+    NUMBER,
+    LOWEST,
+    RECORDS,
+    FIELDS
 };
 
 struct answer {
@@ -141,8 +171,8 @@ void begin_directed(struct scenario *s, const char *name);
 
 /* lend.c, memory.c: the memory of both sides, and its checks. */
 struct lent {
-    uint8_t *bytes; /* NULL where a null pointer is lent */
-    uint8_t *place; /* where the slice stands between its guards */
+    uint8_t *bytes;       /* NULL where a null pointer is lent */
+    uint8_t *place;       /* where the slice stands between its guards */
     size_t count, length; /* length in bytes */
     bool huge, fenced;
 };
@@ -170,7 +200,7 @@ const char *field_name(uint32_t field);
 bool takes(uint32_t kind, uint32_t slice);
 bool can_refuse(uint32_t kind, uint32_t refusal);
 
-/* replay.c: a whole scenario.  counted: it counts for the report. */
+/* replay.c: a whole scenario. counted: it counts for the report. */
 void replay(const struct scenario *s, struct difference *d, bool counted);
 uint64_t calls_compared(void);
 

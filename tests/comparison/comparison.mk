@@ -1,4 +1,4 @@
-# The comparison with the independent program.  From the top Makefile: include tests/comparison/comparison.mk
+# The comparison with the independent program. From the top Makefile: include tests/comparison/comparison.mk
 #   make soak  compares millions of calls from several seeds, the last one from the clock, and shows that each check sees what is wrong
 
 COMPARISON_SOAK_CALLS ?= 4000000

@@ -1,38 +1,83 @@
 /* What was met: each refusal of each call, each rule, each kind, and the
- * situations that the comparison is there for.  A zero is a failure. */
+ * situations that the comparison is there for. A zero is a failure. */
 #include <inttypes.h>
 #include <stdio.h>
 
 #include "lend.h"
 
 enum situation {
-    ROOM_SHORT, ROOM_EXACT, ROOM_BROKEN, NULL_TABLE, NULL_MARKS,
-    NULL_VARIABLES, NULL_EVENTS, NULL_OUT, HUGE_TABLE, HUGE_MARKS,
-    HUGE_VARIABLES, HUGE_EVENTS, HUGE_OUT, REACTIONS_STOP, STEPS_STOP,
-    MOST_EVENTS, LIST_TOO_LONG, LIST_BAD_BEHIND, LIST_BROKEN, EMPTY_LIST,
-    TWELVE_AT_ONCE, TWELVE_LATER, LARGEST, DEEPEST, NEW_MARKS, MARKS_BEHIND,
-    FINISHED_REACTION, HIGH_LEVEL, MANY_STEPS, ODD_ADDRESS, FENCED, NOTHING_AWAITED,
-    MANY_AWAITED, LONGER_REMAINING, SITUATIONS
+    ROOM_SHORT,
+    ROOM_EXACT,
+    ROOM_BROKEN,
+    NULL_TABLE,
+    NULL_MARKS,
+    NULL_VARIABLES,
+    NULL_EVENTS,
+    NULL_OUT,
+    HUGE_TABLE,
+    HUGE_MARKS,
+    HUGE_VARIABLES,
+    HUGE_EVENTS,
+    HUGE_OUT,
+    REACTIONS_STOP,
+    STEPS_STOP,
+    MOST_EVENTS,
+    LIST_TOO_LONG,
+    LIST_BAD_BEHIND,
+    LIST_BROKEN,
+    EMPTY_LIST,
+    TWELVE_AT_ONCE,
+    TWELVE_LATER,
+    LARGEST,
+    DEEPEST,
+    NEW_MARKS,
+    MARKS_BEHIND,
+    FINISHED_REACTION,
+    HIGH_LEVEL,
+    MANY_STEPS,
+    ODD_ADDRESS,
+    FENCED,
+    NOTHING_AWAITED,
+    MANY_AWAITED,
+    LONGER_REMAINING,
+    SITUATIONS
 };
 
 static const char *const situation_names[SITUATIONS] = {
-    "room one record short", "room exact",
+    "room one record short",
+    "room exact",
     "room exact, and bytes that make no whole record",
-    "null table of length 0", "null marks of length 0",
-    "null variables of length 0", "null events of length 0",
-    "null room of length 0", "huge table", "huge marks", "huge variables",
-    "huge events", "huge room", "total of reactions stops at the top",
-    "total of steps stops at the top", "8,192 events taken",
-    "a list over 65,536 bytes", "a bad record that is not a list's first",
-    "a list's last record broken", "an empty list",
-    "a list stopped before its first event", "a list stopped later",
-    "256 records accepted", "eight loops accepted",
+    "null table of length 0",
+    "null marks of length 0",
+    "null variables of length 0",
+    "null events of length 0",
+    "null room of length 0",
+    "huge table",
+    "huge marks",
+    "huge variables",
+    "huge events",
+    "huge room",
+    "total of reactions stops at the top",
+    "total of steps stops at the top",
+    "8,192 events taken",
+    "a list over 65,536 bytes",
+    "a bad record that is not a list's first",
+    "a list's last record broken",
+    "an empty list",
+    "a list stopped before its first event",
+    "a list stopped later",
+    "256 records accepted",
+    "eight loops accepted",
     "a reaction from marks that were drawn",
-    "marks refused behind place 0", "a reaction of a finished program",
-    "a level above 9", "over 500 steps in one call",
-    "slices at odd addresses", "slices that end where memory ends",
+    "marks refused behind place 0",
+    "a reaction of a finished program",
+    "a level above 9",
+    "over 500 steps in one call",
+    "slices at odd addresses",
+    "slices that end where memory ends",
     "a query with no event",
-    "a query with over 9 events", "a remaining program longer than the table"};
+    "a query with over 9 events",
+    "a remaining program longer than the table"};
 
 static uint64_t met[SITUATIONS], refusals[CALLS][INDEPENDENT_REFUSALS];
 
@@ -44,8 +89,8 @@ static void meet(enum situation situation, bool holds)
 static void cover_slices(const struct call *c, const struct lending *l)
 {
     for (uint32_t slice = 0; slice < TOTALS; slice++) {
-        meet(NULL_TABLE + slice, takes(c->kind, slice) &&
-                                     l->before[slice].bytes == NULL);
+        meet(NULL_TABLE + slice,
+             takes(c->kind, slice) && l->before[slice].bytes == NULL);
         meet(HUGE_TABLE + slice, l->before[slice].huge);
     }
     meet(ODD_ADDRESS, c->shift % 2 == 1 && !c->fenced);
@@ -93,9 +138,9 @@ static void cover_reaction(const struct call *c, const struct lending *l,
     meet(MARKS_BEHIND, a->field[REFUSED] == 8 && a->field[PLACE] > 0);
     meet(REACTIONS_STOP, done && stops(l, 0));
     meet(STEPS_STOP, done && stops(l, 1));
-    meet(FINISHED_REACTION,
-         done && c->kind == REACT && a->field[FINISHED] == 1 &&
-             a->field[STEPS] == 2);
+    meet(FINISHED_REACTION, done && c->kind == REACT &&
+                                a->field[FINISHED] == 1 &&
+                                a->field[STEPS] == 2);
 }
 
 static uint32_t deepest_loop(const struct scenario *s)
@@ -123,8 +168,8 @@ void cover(const struct scenario *s, const struct call *c,
     if (c->kind == REACT || c->kind == RUN_LIST)
         cover_reaction(c, l, a);
     meet(HIGH_LEVEL, c->kind != CHECK && a->field[HIGHEST] > 9);
-    meet(MANY_STEPS, (c->kind == START || c->kind == REACT) &&
-                         a->field[STEPS] > 500);
+    meet(MANY_STEPS,
+         (c->kind == START || c->kind == REACT) && a->field[STEPS] > 500);
     if (c->kind == CHECK && refused == 0) {
         meet(LARGEST, s->records == MOST_RECORDS);
         meet(DEEPEST, deepest_loop(s) == MOST_LOOPS);

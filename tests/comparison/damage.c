@@ -5,8 +5,8 @@
 
 static uint8_t likely_byte(void)
 {
-    static const uint8_t likely[] = {0, 1, 2, 3, 8, 9, 10, 11, 13, 14, 15, 17,
-                                     18, 19, 20, 62, 63, 64, 255};
+    static const uint8_t likely[] = {0,  1,  2,  3,  8,  9,  10, 11, 13, 14,
+                                     15, 17, 18, 19, 20, 62, 63, 64, 255};
     return one_in(4) ? (uint8_t)draw(256) : likely[draw(sizeof likely)];
 }
 
@@ -102,7 +102,7 @@ static void damage_length(struct call *c)
         if (other != slice && l->how == HUGE_MORE &&
             c->lengths[other].how == HUGE_MORE)
             l->how = OFF;
-    l->off = offs[draw(sizeof offs / sizeof *offs)];
+    l->off = offs[draw(COUNT(offs))];
 }
 
 static void damage_marks(const struct scenario *s, struct call *c)
@@ -124,9 +124,10 @@ static void damage_marks(const struct scenario *s, struct call *c)
 
 static void damage_event(struct call *c)
 {
-    static const uint32_t wrong[] = {0, 64, 65, 127, 128, 255, 256, 257, 65537,
-                                     0x80000000u, 0x80000001u, 0xffffffffu};
-    c->event = wrong[draw(sizeof wrong / sizeof *wrong)];
+    static const uint32_t wrong[] = {
+        0,   64,  65,    127,         128,         255,
+        256, 257, 65537, 0x80000000u, 0x80000001u, 0xffffffffu};
+    c->event = wrong[draw(COUNT(wrong))];
 }
 
 static uint64_t wrong_list_record(void)
@@ -150,8 +151,8 @@ static void damage_list(struct call *c)
     if (one_in(8)) { /* too long, broken or not, or just not */
         l->records = MOST_LIST_RECORDS;
         c->lengths[EVENTS].how = OFF;
-        c->lengths[EVENTS].off = one_in(2) ? (int32_t)draw(10) - 2
-                                         : (int32_t)draw(64);
+        c->lengths[EVENTS].off =
+            one_in(2) ? (int32_t)draw(10) - 2 : (int32_t)draw(64);
         l->odd_at = (int32_t)draw(MOST_LIST_RECORDS);
         l->odd = wrong_list_record();
         return;

@@ -22,8 +22,8 @@ static void begin_with(struct scenario *s, uint32_t which, const char *name)
     static const uint8_t a_fin[][3] = {
         {OR, 0, 4}, {FIN, 0, 2}, {OUTPUT, 2, 1}, {AWAIT_INPUT, 1, 1}};
     static const uint8_t an_every[][3] = {
-        {AND, 0, 6}, {EVERY_INPUT, 1, 2}, {OUTPUT, 1, 1}, {SEQUENCE, 0, 3},
-        {AWAIT_INPUT, 1, 1}, {EMIT, 1, 1}};
+        {AND, 0, 6},      {EVERY_INPUT, 1, 2}, {OUTPUT, 1, 1},
+        {SEQUENCE, 0, 3}, {AWAIT_INPUT, 1, 1}, {EMIT, 1, 1}};
     static const uint8_t silent[][3] = {
         {LOOP, 0, 4}, {SEQUENCE, 0, 3}, {AWAIT_INPUT, 1, 1}, {EMIT, 1, 1}};
     static const uint8_t one[][3] = {{AWAIT_INPUT, 1, 1}};
@@ -74,7 +74,7 @@ static bool wrong_lengths(uint32_t which, uint32_t kind, uint32_t slice,
         if (how != OFF && !wrong_length(which, kind, slice, length, attempt))
             return false;
     }
-    for (size_t i = 0; i < sizeof offs / sizeof *offs; i++) {
+    for (size_t i = 0; i < COUNT(offs); i++) {
         struct length length = {OFF, offs[i]};
         if (!wrong_length(which, kind, slice, length, attempt))
             return false;
@@ -95,11 +95,12 @@ static bool all_wrong_lengths(try_scenario attempt)
 
 static bool wrong_events(try_scenario attempt)
 {
-    static const uint32_t events[] = {0, 63, 64, 65, 127, 128, 255, 256, 257,
-                                      65536, 65537, 0x7fffffffu, 0x80000000u,
-                                      0x80000001u, 0xffffffffu};
+    static const uint32_t events[] = {
+        0,     63,          64,          65,          127,
+        128,   255,         256,         257,         65536,
+        65537, 0x7fffffffu, 0x80000000u, 0x80000001u, 0xffffffffu};
     struct scenario s;
-    for (size_t i = 0; i < sizeof events / sizeof *events; i++) {
+    for (size_t i = 0; i < COUNT(events); i++) {
         begin_with(&s, (uint32_t)i % 4, "a wrong event");
         add_call(&s, REACT)->event = events[i];
         if (!then_rightly(&s, REACT, attempt))
@@ -129,11 +130,12 @@ static bool wrong_list(uint32_t records, int32_t odd_at, uint64_t odd,
 static bool wrong_lists(try_scenario attempt)
 {
     static const uint64_t words[] = {
-        0, 63, 64, 65, 128, 255, 0x101, 0x8001, 0x10001, 0x800001, 0x1000001,
-        0x80000001u, 0xffffff01u, 0xff00000000u};
+        0,         63,          64,          65,           128,
+        255,       0x101,       0x8001,      0x10001,      0x800001,
+        0x1000001, 0x80000001u, 0xffffff01u, 0xff00000000u};
     static const int32_t offs[] = {0, -1, -7, -8, 1, 7};
-    for (size_t w = 0; w < sizeof words / sizeof *words; w++)
-        for (size_t o = 0; o < sizeof offs / sizeof *offs; o++)
+    for (size_t w = 0; w < COUNT(words); w++)
+        for (size_t o = 0; o < COUNT(offs); o++)
             for (int32_t at = 0; at <= 5; at++)
                 if (!wrong_list(5, at, words[w], offs[o], attempt))
                     return false;
@@ -151,6 +153,18 @@ static bool long_lists(try_scenario attempt)
                       attempt);
 }
 
+/* What can be wrong with a call, as bits. */
+enum wrong {
+    LONG_TABLE = 1,
+    LONG_MARKS = 2,
+    MANY_VARIABLES = 4,
+    BAD_EVENT = 8,
+    NO_ROOM = 16,
+    BAD_NAME = 32,
+    BAD_MARK = 64,
+    ALL_WRONGS = 128
+};
+
 /* Every set of wrongs together: the lowest number decides. */
 static bool wrongs_together(uint32_t kind, uint32_t wrongs,
                             try_scenario attempt)
@@ -162,21 +176,21 @@ static bool wrongs_together(uint32_t kind, uint32_t wrongs,
     begin_with(&s, wrongs % 2, "several wrongs together");
     c = add_call(&s, (enum call_kind)kind);
     c->list.records = 3;
-    if (wrongs & 1)
+    if (wrongs & LONG_TABLE)
         c->lengths[TABLE] = one_more;
-    if (wrongs & 2)
+    if (wrongs & LONG_MARKS)
         c->lengths[MARKS] = one_more;
-    if (wrongs & 4)
+    if (wrongs & MANY_VARIABLES)
         c->lengths[VARIABLE] = one_more;
-    if (wrongs & 8) {
+    if (wrongs & BAD_EVENT) {
         c->event = 64;
         c->lengths[EVENTS] = broken;
     }
-    if (wrongs & 16)
+    if (wrongs & NO_ROOM)
         c->lengths[OUT] = none;
-    if (wrongs & 32)
+    if (wrongs & BAD_NAME)
         s.table[1] = 1; /* a name on a kind that has none */
-    if (wrongs & 64) {
+    if (wrongs & BAD_MARK) {
         c->new_marks = 1;
         c->marks[0] = 2;
     }
@@ -186,7 +200,7 @@ static bool wrongs_together(uint32_t kind, uint32_t wrongs,
 bool directed_lengths(try_scenario attempt)
 {
     for (uint32_t kind = 0; kind < CALLS; kind++)
-        for (uint32_t wrongs = 0; wrongs < 128; wrongs++)
+        for (uint32_t wrongs = 0; wrongs < ALL_WRONGS; wrongs++)
             if (!wrongs_together(kind, wrongs, attempt))
                 return false;
     return all_wrong_lengths(attempt) && wrong_events(attempt) &&

@@ -5,8 +5,6 @@
 
 #include "comparison.h"
 
-#define COUNT(row) (sizeof(row) / sizeof *(row))
-
 static void put_here(struct scenario *s, uint32_t kind, uint32_t name,
                      int32_t number)
 {
@@ -21,9 +19,10 @@ static void put_construct(struct scenario *s, uint32_t kind)
                      kind == EVERY_INTERNAL;
     put_here(s, kind, named, 0);
     for (uint32_t below = children(kind); below > 0; below--)
-        put_here(s, kind >= EVERY_INPUT && kind != AND && kind != OR
-                        ? OUTPUT
-                        : AWAIT_INPUT,
+        put_here(s,
+                 kind >= EVERY_INPUT && kind != AND && kind != OR
+                     ? OUTPUT
+                     : AWAIT_INPUT,
                  1, 0);
     put_span(s->table, place, s->records - place);
 }
@@ -51,8 +50,8 @@ static void begin_record(struct scenario *s, uint32_t kind, const char *name)
 static bool names_and_numbers(uint32_t kind, try_scenario attempt)
 {
     static const uint8_t names[] = {0, 1, 62, 63, 64, 65, 128, 255};
-    static const int32_t numbers[] = {0, 1, 62, 63, 64, 65, 256, 1 << 24, -1,
-                                      INT32_MAX, INT32_MIN};
+    static const int32_t numbers[] = {
+        0, 1, 62, 63, 64, 65, 256, 1 << 24, -1, INT32_MAX, INT32_MIN};
     struct scenario s;
     for (size_t i = 0; i < COUNT(names) * COUNT(numbers); i++) {
         uint32_t span;
@@ -69,8 +68,8 @@ static bool names_and_numbers(uint32_t kind, try_scenario attempt)
 
 static bool spans(uint32_t kind, try_scenario attempt)
 {
-    static const uint16_t wrong[] = {0, 1, 2, 3, 4, 5, 6, 255, 256, 257, 258,
-                                     259, 65535};
+    static const uint16_t wrong[] = {0,   1,   2,   3,   4,   5,    6,
+                                     255, 256, 257, 258, 259, 65535};
     struct scenario s;
     for (size_t i = 0; i < COUNT(wrong) * 4; i++) {
         begin_record(&s, kind, "spans");
@@ -93,8 +92,8 @@ static bool kinds_below(uint32_t kind, try_scenario attempt)
         begin_directed(&s, "one kind under another");
         if (loop)
             put_here(&s, LOOP, 0, 0);
-        put_here(&s, kind_above, kind_above <= EVERY_INTERNAL &&
-                                     kind_above != LOOP, 0);
+        put_here(&s, kind_above,
+                 kind_above <= EVERY_INTERNAL && kind_above != LOOP, 0);
         put_construct(&s, kind);
         for (uint32_t place = 0; place <= loop; place++)
             put_span(s.table, place, s.records - place);

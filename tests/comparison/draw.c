@@ -33,7 +33,7 @@ int32_t draw_number(void)
 {
     static const int32_t numbers[] = {
         0, 1, -1, 2, -2, 7, -7, 40, INT32_MAX, INT32_MIN, INT32_MIN + 1};
-    uint32_t count = sizeof numbers / sizeof *numbers, i = draw(count + 2);
+    uint32_t count = COUNT(numbers), i = draw(count + 2);
     uint32_t any = draw(0xffffffffu);
     if (i < count)
         return numbers[i];

@@ -5,7 +5,8 @@
 
 static void delete_marks(uint8_t *marks, size_t place, size_t number)
 {
-    memmove(marks + place, marks + place + number, MARKS_ROOM - place - number);
+    memmove(marks + place, marks + place + number,
+            MARKS_ROOM - place - number);
     memset(marks + MARKS_ROOM - number, 0, number);
 }
 

@@ -10,11 +10,11 @@ struct growth {
     uint32_t events, names; /* how many different ones the program uses */
     uint32_t loops;
     uint32_t relays; /* so far */
-    bool plain;    /* under an every or a fin */
-    bool careless; /* does not mind the stages 4 to 7 */
-    bool looping;  /* more loops than otherwise */
-    bool busy;     /* many trails that wake each other */
-    bool broken;   /* the nearest loop has a break of its own */
+    bool plain;      /* under an every or a fin */
+    bool careless;   /* does not mind the stages 4 to 7 */
+    bool looping;    /* more loops than otherwise */
+    bool busy;       /* many trails that wake each other */
+    bool broken;     /* the nearest loop has a break of its own */
 };
 
 uint32_t children(uint32_t kind)
@@ -132,8 +132,8 @@ static bool grow_relay(struct growth *g)
 /* A trail of awaits, emits and other leaves, one after the other. */
 static bool grow_trail(struct growth *g, uint32_t most)
 {
-    static const uint8_t kinds[] = {AWAIT_INTERNAL, AWAIT_INTERNAL, EMIT, EMIT,
-                                    AWAIT_INPUT, EMIT};
+    static const uint8_t kinds[] = {AWAIT_INTERNAL, AWAIT_INTERNAL, EMIT,
+                                    EMIT,           AWAIT_INPUT,    EMIT};
     uint32_t place = g->records, kind = kinds[draw(sizeof kinds)];
     bool more = most >= 3 && !one_in(5), may_end;
     if (more)
@@ -281,9 +281,23 @@ static bool grow_meeting(struct growth *g, uint32_t most)
 
 static uint32_t some_kind(const struct growth *g, uint32_t most)
 {
-    static const uint8_t kinds[] = {SEQUENCE, SEQUENCE, SEQUENCE, SEQUENCE, IF,
-                                    AND, AND, AND, AND, OR, OR, OR, LOOP, LOOP,
-                                    FIN, EVERY_INPUT, EVERY_INTERNAL};
+    static const uint8_t kinds[] = {SEQUENCE,
+                                    SEQUENCE,
+                                    SEQUENCE,
+                                    SEQUENCE,
+                                    IF,
+                                    AND,
+                                    AND,
+                                    AND,
+                                    AND,
+                                    OR,
+                                    OR,
+                                    OR,
+                                    LOOP,
+                                    LOOP,
+                                    FIN,
+                                    EVERY_INPUT,
+                                    EVERY_INTERNAL};
     bool plain = g->plain && !(g->careless && one_in(8));
     if (!plain && g->looping && !one_in(3))
         return LOOP;
@@ -356,7 +370,7 @@ static void grow_crowd(struct growth *g, uint32_t most)
     close_span(g, place);
 }
 
-/* Writes a program of at most so many records; returns how many.  A careless
+/* Writes a program of at most so many records; returns how many. A careless
  * one may be refused for 4 to 7, any other is accepted. */
 uint32_t grow_program(uint8_t *table, uint32_t most, bool careless)
 {

@@ -1,6 +1,7 @@
-/* The memory of both sides: each slice stands between two guards, in a copy for
- * the archive, one for the independent program, and one that stays as lent.
- * A fenced slice has no guard behind it: no byte there can even be read. */
+/* The memory of both sides: each slice stands between two guards, in a copy
+ * for the archive, one for the independent program, and one that stays as
+ * lent. A fenced slice has no guard behind it: no byte there can even be read.
+ */
 #define _DEFAULT_SOURCE
 #include <stdio.h>
 #include <stdlib.h>
@@ -17,8 +18,9 @@ enum {
     FENCE = 1 << 16 /* whole pages on every machine */
 };
 static const size_t rooms[SLICES] = {
-    TABLE_ROOM, MARKS_ROOM, VARIABLES_ROOM * 4,
-    MOST_LIST_RECORDS * RECORD_BYTES + 64, OUT_ROOM, 16};
+    TABLE_ROOM,         MARKS_ROOM,
+    VARIABLES_ROOM * 4, MOST_LIST_RECORDS *RECORD_BYTES + 64,
+    OUT_ROOM,           16};
 
 /* A huge slice is 2^32 variables and more; hardly a page of it is touched. */
 #define HUGE_MEMORY (((size_t)1 << 34) + HUGE_LOOKED + 4096)
@@ -51,8 +53,10 @@ static uint8_t *memory_of(uint32_t side, uint32_t slice, bool huge)
     if (usual[side][slice] == NULL) {
         usual[side][slice] = get_memory(usual_memory(slice) + FENCE);
         if (mprotect(usual[side][slice] + usual_memory(slice), FENCE,
-                     PROT_NONE) != 0)
+                     PROT_NONE) != 0) {
+            fputs("comparison: no fence\n", stderr);
             exit(2);
+        }
     }
     return usual[side][slice];
 }
@@ -88,7 +92,8 @@ static size_t right_room(const struct scenario *s, const struct call *c,
     if (c->kind == REMAINING)
         return independent_remaining(s->table, s->records * RECORD_BYTES,
                                      state->marks, s->records, scratch,
-                                     sizeof scratch).records;
+                                     sizeof scratch)
+            .records;
     checked = independent_check(s->table, s->records * RECORD_BYTES);
     return checked.refused == 0 ? checked.outputs : 2;
 }
@@ -157,7 +162,7 @@ static void put_contents(const struct lent *t, uint32_t slice,
                          const struct state *state)
 {
     const void *from[SLICES] = {s->table, state->marks, state->variables,
-                                NULL, NULL, state->totals};
+                                NULL,     NULL,         state->totals};
     size_t length = looked_at(t), known = rooms[slice];
     if (slice == EVENTS) {
         put_events(t->place, length, &c->list);
@@ -189,8 +194,8 @@ static void lend_slice(struct lending *l, uint32_t slice,
 {
     struct lent *sides[SIDES] = {l->before, l->ours, l->theirs}, t;
     struct length want = c->lengths[slice];
-    t.count = lent_count(want, right_count(s, c, state, slice), slice,
-                         &t.huge);
+    t.count =
+        lent_count(want, right_count(s, c, state, slice), slice, &t.huge);
     t.length = t.count * unit(slice);
     t.fenced = c->fenced && !t.huge;
     for (uint32_t side = 0; side < SIDES; side++) {

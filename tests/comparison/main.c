@@ -1,9 +1,9 @@
 /* Compares the archive with the independent program.
  * Usage: comparison [--calls N] [--seconds T] [--seed S] [--scenario K]
  *                   [--undirected] [--patience T]
- * Without a seed there are two: a fixed one and one from the clock.  Calls and
+ * Without a seed there are two: a fixed one and one from the clock. Calls and
  * seconds are those of each seed; patience, in seconds, is for one scenario
- * and for shrinking it.  The last line is "N passed, M failed". */
+ * and for shrinking it. The last line is "N passed, M failed". */
 #include <inttypes.h>
 #include <stdio.h>
 #include <stdlib.h>
@@ -12,11 +12,7 @@
 
 #include "comparison.h"
 
-enum {
-    FIXED_SEED = 1,
-    USUAL_SECONDS = 45,
-    USUAL_PATIENCE = 120
-};
+enum { FIXED_SEED = 1, USUAL_SECONDS = 45, USUAL_PATIENCE = 120 };
 
 struct wanted {
     uint64_t calls, seconds, seed, scenario, patience;
@@ -83,8 +79,8 @@ static bool run_seed(const struct wanted *w, uint64_t seed)
 
 static struct wanted read_wanted(int count, char **words)
 {
-    struct wanted w = {0, USUAL_SECONDS, 0, 0, USUAL_PATIENCE,
-                       false, false, false};
+    struct wanted w = {0,     USUAL_SECONDS, 0,    0, USUAL_PATIENCE,
+                       false, false,         false};
     for (int i = 1; i < count; i++) {
         const char *word = words[i];
         uint64_t number;

@@ -5,15 +5,15 @@
 #include "lend.h"
 
 static const char *const guards_before[SLICES] = {
-    "the guard before the table", "the guard before the marks",
+    "the guard before the table",     "the guard before the marks",
     "the guard before the variables", "the guard before the events",
-    "the guard before the outputs", "the guard before the totals"};
+    "the guard before the outputs",   "the guard before the totals"};
 static const char *const guards_behind[SLICES] = {
-    "the guard behind the table", "the guard behind the marks",
+    "the guard behind the table",     "the guard behind the marks",
     "the guard behind the variables", "the guard behind the events",
-    "the guard behind the outputs", "the guard behind the totals"};
+    "the guard behind the outputs",   "the guard behind the totals"};
 
-/* Do the bytes from one offset to another agree?  If not, d says where. */
+/* Do the bytes from one offset to another agree? If not, d says where. */
 static bool agree(const struct lent *a, const struct lent *b, size_t from,
                   size_t to, struct difference *d)
 {
@@ -67,23 +67,31 @@ static bool is_input(uint32_t kind, uint32_t slice)
            (slice == MARKS && (kind == QUERY || kind == REMAINING));
 }
 
+/* Neither side has changed the slice. */
+static bool stays(const struct lending *l, uint32_t slice,
+                  struct difference *d)
+{
+    return agree_whole(&l->ours[slice], &l->before[slice], d) &&
+           agree_whole(&l->theirs[slice], &l->before[slice], d);
+}
+
 static const char *slices_stay(const struct lending *l, const struct call *c,
                                struct difference *d)
 {
     static const char *const inputs[SLICES] = {
-        "the table stays", "the marks stay that are only read", NULL,
-        "the events stay", NULL, NULL};
+        "the table stays",
+        "the marks stay that are only read",
+        NULL,
+        "the events stay",
+        NULL,
+        NULL};
     uint64_t refused = d->theirs.field[REFUSED];
     for (uint32_t slice = 0; slice < SLICES; slice++) {
         if (!takes(c->kind, slice))
             continue;
-        if (is_input(c->kind, slice) &&
-            !(agree_whole(&l->ours[slice], &l->before[slice], d) &&
-              agree_whole(&l->theirs[slice], &l->before[slice], d)))
+        if (is_input(c->kind, slice) && !stays(l, slice, d))
             return inputs[slice];
-        if (refused != 0 && refused != 12 &&
-            !(agree_whole(&l->ours[slice], &l->before[slice], d) &&
-              agree_whole(&l->theirs[slice], &l->before[slice], d)))
+        if (refused != 0 && refused != 12 && !stays(l, slice, d))
             return "a refusal leaves all as it was";
     }
     return NULL;
@@ -94,8 +102,9 @@ static const char *outputs_agree(const struct lending *l, struct difference *d)
 {
     const struct lent *a = &l->ours[OUT], *b = &l->theirs[OUT];
     const struct answer *answer = &d->theirs;
-    size_t written = (size_t)(answer->field[OUTPUTS] + answer->field[RECORDS]) *
-                     RECORD_BYTES;
+    size_t written =
+        (size_t)(answer->field[OUTPUTS] + answer->field[RECORDS]) *
+        RECORD_BYTES;
     if (!agree(a, b, 0, written, d))
         return "the outputs";
     if (!agree(a, &l->before[OUT], written, a->huge ? HUGE_LOOKED : a->length,
@@ -107,9 +116,8 @@ static const char *outputs_agree(const struct lending *l, struct difference *d)
 static const char *changes_agree(const struct lending *l, const struct call *c,
                                  struct difference *d)
 {
-    static const char *const names[SLICES] = {NULL, "the marks",
-                                              "the variables", NULL, NULL,
-                                              "the totals"};
+    static const char *const names[SLICES] = {
+        NULL, "the marks", "the variables", NULL, NULL, "the totals"};
     for (uint32_t slice = 0; slice < SLICES; slice++)
         if (names[slice] != NULL && takes(c->kind, slice) &&
             !agree_whole(&l->ours[slice], &l->theirs[slice], d))

@@ -5,12 +5,28 @@
 
 #include "comparison.h"
 
-static const char *const kind_names[KINDS] = {
-    "nothing", "set", "add", "copy", "subtract", "less", "divide", "output",
-    "await input", "await internal", "emit", "break", "if", "sequence", "loop",
-    "every input", "every internal", "and", "or", "fin"};
-static const char *const slice_names[SLICES] = {
-    "table", "marks", "variables", "events", "out", "totals"};
+static const char *const kind_names[KINDS] = {"nothing",
+                                              "set",
+                                              "add",
+                                              "copy",
+                                              "subtract",
+                                              "less",
+                                              "divide",
+                                              "output",
+                                              "await input",
+                                              "await internal",
+                                              "emit",
+                                              "break",
+                                              "if",
+                                              "sequence",
+                                              "loop",
+                                              "every input",
+                                              "every internal",
+                                              "and",
+                                              "or",
+                                              "fin"};
+static const char *const slice_names[SLICES] = {"table",  "marks", "variables",
+                                                "events", "out",   "totals"};
 
 static void print_table(const struct scenario *s)
 {
@@ -49,7 +65,8 @@ static void print_first(const struct scenario *s)
 static void print_list(const struct list *l)
 {
     printf("    list of %" PRIu32 " records, which repeat (event, bytes 1-3, "
-           "value):", l->records);
+           "value):",
+           l->records);
     for (uint32_t i = 0; i < l->different; i++)
         printf(" %u,%u,%" PRId32, (unsigned)(l->few[i] & 0xff),
                (unsigned)(l->few[i] >> 8 & 0xffffff),
@@ -90,8 +107,8 @@ void print_scenario(const struct scenario *s)
     if (s->name != NULL)
         printf("directed: %s\n", s->name);
     else
-        printf("seed %" PRIu64 ", scenario %" PRIu64
-               " (run --seed %" PRIu64 " --scenario %" PRIu64 ")\n",
+        printf("seed %" PRIu64 ", scenario %" PRIu64 " (run --seed %" PRIu64
+               " --scenario %" PRIu64 ")\n",
                s->seed, s->number, s->seed, s->number);
     print_table(s);
     print_first(s);

@@ -39,8 +39,7 @@ static void draw_list(const struct scenario *s, struct call *c)
     if (s->records <= 12 && one_in(400))
         l->records = MOST_LIST_RECORDS - draw(2);
     for (uint32_t i = 0; i < l->different; i++)
-        l->few[i] =
-            draw_event(s) | (uint64_t)(uint32_t)draw_number() << 32;
+        l->few[i] = draw_event(s) | (uint64_t)(uint32_t)draw_number() << 32;
 }
 
 /* Exact, or more; a list's may stop it. */
@@ -88,8 +87,8 @@ static void draw_first(struct scenario *s, bool accepted)
 /* One call that changes the state, then what can be asked of it. */
 static bool draw_turn(struct scenario *s, bool accepted, bool fresh_marks)
 {
-    static const uint8_t kinds[] = {REACT, REACT, REACT, RUN_LIST, RUN_LIST,
-                                    START};
+    static const uint8_t kinds[] = {REACT,    REACT,    REACT,
+                                    RUN_LIST, RUN_LIST, START};
     struct call *c = draw_call(s, kinds[draw(sizeof kinds)]);
     bool spoiled = false;
     if (accepted && (fresh_marks || one_in(4))) {

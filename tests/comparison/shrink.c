@@ -5,7 +5,14 @@
 
 #include "comparison.h"
 
-enum { MOST_ROUNDS = 40, ONE_ATTEMPT = 1 };
+enum { MOST_ROUNDS = 40, ONE_ATTEMPT = 1 /* second */ };
+
+/* What a construct becomes. */
+enum edit { TO_NOTHING, TO_LEFT, TO_RIGHT, EDITS };
+
+/* What of a call becomes right or usual: the length of a slice, or one of
+ * these. */
+enum aspect { SHIFT = SLICES, NEW_MARKS, VALUE, EVENT, FENCE, LIST, ASPECTS };
 
 static struct scenario smaller; /* what is tried */
 static time_t deadline;
@@ -42,15 +49,15 @@ static bool drop_calls(struct scenario *s, struct difference *d)
 }
 
 /* The construct at a place becomes nothing, or one of its children. */
-static bool edit_construct(struct scenario *s, size_t place, uint32_t how)
+static bool edit_construct(struct scenario *s, size_t place, enum edit how)
 {
     size_t span = span_at(s->table, place), second;
     uint32_t kind = s->table[place * RECORD_BYTES];
     if (span == 0 || place + span > s->records)
         return false;
-    if (how == 0) {
-        if (kind == NOTHING || (span > 1 &&
-                                !delete_records(s, place + 1, span - 1)))
+    if (how == TO_NOTHING) {
+        if (kind == NOTHING ||
+            (span > 1 && !delete_records(s, place + 1, span - 1)))
             return false;
         put_record(s->table, place, NOTHING, 0, 0);
         return true;
@@ -58,11 +65,11 @@ static bool edit_construct(struct scenario *s, size_t place, uint32_t how)
     if (span == 1)
         return false;
     if (children(kind) == 1)
-        return how == 1 && delete_records(s, place, 1);
+        return how == TO_LEFT && delete_records(s, place, 1);
     second = second_child(s->table, place);
     if (second >= place + span)
         return false;
-    if (how == 1)
+    if (how == TO_LEFT)
         return delete_records(s, second, place + span - second) &&
                delete_records(s, place, 1);
     return delete_records(s, place, second - place);
@@ -72,9 +79,9 @@ static bool cut_constructs(struct scenario *s, struct difference *d)
 {
     bool some = false;
     for (size_t place = 0; place < s->records; place++)
-        for (uint32_t how = 0; how < 3; how++) {
+        for (uint32_t how = 0; how < EDITS; how++) {
             smaller = *s;
-            if (edit_construct(&smaller, place, how))
+            if (edit_construct(&smaller, place, (enum edit)how))
                 some |= keep(s, d);
         }
     return some;
@@ -86,7 +93,8 @@ static void rename_internal(struct scenario *s, uint8_t from, uint8_t to)
     for (size_t place = 0; place < s->records; place++) {
         uint8_t *record = s->table + place * RECORD_BYTES;
         if ((record[0] == AWAIT_INTERNAL || record[0] == EMIT ||
-             record[0] == EVERY_INTERNAL) && record[1] == from)
+             record[0] == EVERY_INTERNAL) &&
+            record[1] == from)
             record[1] = to;
     }
 }
@@ -96,13 +104,15 @@ static bool cut_relays(struct scenario *s, struct difference *d)
 {
     bool some = false;
     for (size_t place = 0; place + 2 < s->records; place++) {
-        const uint8_t *record = s->table + place * RECORD_BYTES;
-        if (record[0] != SEQUENCE || record[8] != AWAIT_INTERNAL ||
-            record[16] != EMIT)
+        const uint8_t *sequence = s->table + place * RECORD_BYTES;
+        const uint8_t *await = sequence + RECORD_BYTES;
+        const uint8_t *emit = await + RECORD_BYTES;
+        if (sequence[0] != SEQUENCE || await[0] != AWAIT_INTERNAL ||
+            emit[0] != EMIT)
             continue;
         smaller = *s;
-        rename_internal(&smaller, record[17], record[9]);
-        if (edit_construct(&smaller, place, 0))
+        rename_internal(&smaller, emit[1], await[1]);
+        if (edit_construct(&smaller, place, TO_NOTHING))
             some |= keep(s, d);
     }
     return some;
@@ -140,15 +150,15 @@ static bool right_one(struct call *c, uint32_t what)
     struct call before = *c;
     if (what < SLICES)
         memset(&c->lengths[what], 0, sizeof c->lengths[what]);
-    else if (what == SLICES)
+    else if (what == SHIFT)
         c->shift = 0;
-    else if (what == SLICES + 1)
+    else if (what == NEW_MARKS)
         c->new_marks = 0;
-    else if (what == SLICES + 2)
+    else if (what == VALUE)
         c->value = 0;
-    else if (what == SLICES + 3)
+    else if (what == EVENT)
         c->event = 1;
-    else if (what == SLICES + 4)
+    else if (what == FENCE)
         c->fenced = 0;
     else
         memset(c->list.few, 1, 1);
@@ -159,7 +169,7 @@ static bool right_calls(struct scenario *s, struct difference *d)
 {
     bool some = false;
     for (int32_t i = 0; i < s->calls; i++)
-        for (uint32_t what = 0; what < SLICES + 6; what++) {
+        for (uint32_t what = 0; what < ASPECTS; what++) {
             smaller = *s;
             if (right_one(&smaller.call[i], what))
                 some |= keep(s, d);

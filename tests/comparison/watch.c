@@ -1,5 +1,6 @@
 /* Calls that crash or come to no end are seen as differences like any other.
- * The archive keeps nothing between calls, so that one can be left half-way. */
+ * The archive keeps nothing between calls, so that one can be left half-way.
+ */
 #define _DEFAULT_SOURCE
 #include <setjmp.h>
 #include <signal.h>
@@ -23,8 +24,8 @@ static void on_signal(int number)
 
 void watch(void)
 {
-    static const int numbers[] = {SIGSEGV, SIGBUS, SIGILL, SIGFPE, SIGABRT,
-                                  SIGTRAP, SIGALRM};
+    static const int numbers[] = {SIGSEGV, SIGBUS,  SIGILL, SIGFPE,
+                                  SIGABRT, SIGTRAP, SIGALRM};
     static uint8_t stack[LARGE_STACK];
     stack_t other;
     struct sigaction action;
@@ -35,7 +36,7 @@ void watch(void)
     sigaltstack(&other, NULL);
     action.sa_handler = on_signal;
     action.sa_flags = SA_ONSTACK | SA_NODEFER;
-    for (size_t i = 0; i < sizeof numbers / sizeof *numbers; i++)
+    for (size_t i = 0; i < COUNT(numbers); i++)
         sigaction(numbers[i], &action, NULL);
 }
 

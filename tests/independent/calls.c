@@ -13,9 +13,9 @@ struct independent_answer ind_refused_answer(struct refusal r)
 }
 
 /* 9: "not exactly 64 variables", place 0. */
-static struct refusal stage_9(size_t vars_len)
+static struct refusal stage_9(size_t variables_count)
 {
-    return vars_len == VARIABLES ? ind_accepted() : ind_refuse(9, 0);
+    return variables_count == VARIABLES ? ind_accepted() : ind_refuse(9, 0);
 }
 
 /* 10 for an event alone: "event 0 or over 63", place 0. */
@@ -27,27 +27,27 @@ static struct refusal stage_10(uint32_t event)
 
 /* 11: "output room, in whole records, below the announced outputs", place
  * 0. */
-static struct refusal stage_11(const struct program *p, size_t out_len)
+static struct refusal stage_11(const struct program *p, size_t out_bytes)
 {
-    return out_len / RECORD_BYTES < ind_announced(p).outputs
+    return out_bytes / RECORD_BYTES < ind_announced(p).outputs
                ? ind_refuse(11, 0)
                : ind_accepted();
 }
 
 struct refusal ind_reaction_stages_1_to_9(
-    const uint8_t *table, size_t table_len, const uint8_t *marks,
-    size_t marks_len, size_t vars_len, struct program *p)
+    const uint8_t *table, size_t table_bytes, const uint8_t *marks,
+    size_t marks_bytes, size_t variables_count, struct program *p)
 {
-    struct refusal r = ind_stages_1_to_7(table, table_len, p);
+    struct refusal r = ind_stages_1_to_7(table, table_bytes, p);
     if (r.number == 0)
-        r = ind_stage_8(p, marks, marks_len);
+        r = ind_stage_8(p, marks, marks_bytes);
     if (r.number == 0)
-        r = stage_9(vars_len);
+        r = stage_9(variables_count);
     return r;
 }
 
-/* Takes steps to the end at level 0.  False where no rule applies, or where
- * there is no end: the paper's rules allow neither. */
+/* Takes steps to the end at level 0. False where no rule applies, or where
+ * there is no end: document 01 allows neither. */
 static bool take_steps(struct description *d, uint64_t *steps)
 {
     *steps = 0;
@@ -64,18 +64,18 @@ static struct independent_answer broken(void)
     return ind_refused_answer(ind_refuse(INDEPENDENT_BROKEN, 0));
 }
 
-/* Runs the tree on the event, which is pending at level 0.  The tree is used
+/* Runs the tree on the event, which is pending at level 0. The tree is used
  * up; the marks are written from the final tree. */
 struct independent_answer ind_run(const struct program *p, struct node *tree,
                                   struct event event, uint8_t *marks,
-                                  int32_t *vars, struct outputs outputs)
+                                  int32_t *variables, struct outputs outputs)
 {
     struct description d = {NULL, 0, {NO_EVENT, 0}, NULL, {NULL, 0, 0}, 0, 0};
     struct independent_answer a = {0, 0, 0, 0, 0, 0, 0};
     bool ended;
     d.tree = tree;
     d.pending = event;
-    d.vars = vars;
+    d.variables = variables;
     d.outputs = outputs;
     ended = take_steps(&d, &a.steps);
     if (ended)
@@ -90,11 +90,11 @@ struct independent_answer ind_run(const struct program *p, struct node *tree,
     return a;
 }
 
-static struct outputs outputs_into(uint8_t *out, size_t out_len)
+static struct outputs outputs_into(uint8_t *out, size_t out_bytes)
 {
     struct outputs o;
     o.bytes = out;
-    o.room = out_len / RECORD_BYTES;
+    o.room = out_bytes / RECORD_BYTES;
     o.written = 0;
     return o;
 }
@@ -108,35 +108,38 @@ static struct event input_event(uint32_t number)
 }
 
 /* "The start tests only the length of the marks, and no event." */
-static struct refusal refuse_start(const uint8_t *table, size_t table_len,
-                                   size_t marks_len, size_t vars_len,
-                                   size_t out_len, struct program *p)
+static struct refusal refuse_start(const uint8_t *table, size_t table_bytes,
+                                   size_t marks_bytes, size_t variables_count,
+                                   size_t out_bytes, struct program *p)
 {
-    struct refusal r = ind_stages_1_to_7(table, table_len, p);
+    struct refusal r = ind_stages_1_to_7(table, table_bytes, p);
     if (r.number == 0)
-        r = ind_stage_8_length(p, marks_len);
+        r = ind_stage_8_length(p, marks_bytes);
     if (r.number == 0)
-        r = stage_9(vars_len);
+        r = stage_9(variables_count);
     if (r.number == 0)
-        r = stage_11(p, out_len);
+        r = stage_11(p, out_bytes);
     return r;
 }
 
 /* "A start puts 0 in variable 0 and pushes event 0, which nobody awaits, on
  * the program itself." */
-struct independent_answer independent_start(
-    const uint8_t *table, size_t table_len, uint8_t *marks, size_t marks_len,
-    int32_t *vars, size_t vars_len, uint8_t *out, size_t out_len)
+struct independent_answer independent_start(const uint8_t *table,
+                                            size_t table_bytes, uint8_t *marks,
+                                            size_t marks_bytes,
+                                            int32_t *variables,
+                                            size_t variables_count,
+                                            uint8_t *out, size_t out_bytes)
 {
     struct program p;
-    struct refusal r = refuse_start(table, table_len, marks_len, vars_len,
-                                    out_len, &p);
+    struct refusal r = refuse_start(table, table_bytes, marks_bytes,
+                                    variables_count, out_bytes, &p);
     if (r.number != 0)
         return ind_refused_answer(r);
     ind_met_refusal(0);
-    vars[0] = 0;
-    return ind_run(&p, ind_program_tree(&p, 0), input_event(0), marks, vars,
-                   outputs_into(out, out_len));
+    variables[0] = 0;
+    return ind_run(&p, ind_program_tree(&p, 0), input_event(0), marks,
+                   variables, outputs_into(out, out_bytes));
 }
 
 static uint64_t stopping_at_the_top(uint64_t a, uint64_t b)
@@ -155,24 +158,25 @@ void ind_add_to_totals(struct independent_totals *totals, uint64_t steps)
 /* "A reaction tests 1 to 11 in that order."  "A reaction puts the value in
  * variable 0 and pushes the event." */
 struct independent_answer independent_react(
-    const uint8_t *table, size_t table_len, uint8_t *marks, size_t marks_len,
-    int32_t *vars, size_t vars_len, uint32_t event, int32_t value,
-    uint8_t *out, size_t out_len, struct independent_totals *totals)
+    const uint8_t *table, size_t table_bytes, uint8_t *marks,
+    size_t marks_bytes, int32_t *variables, size_t variables_count,
+    uint32_t event, int32_t value, uint8_t *out, size_t out_bytes,
+    struct independent_totals *totals)
 {
     struct program p;
     struct independent_answer a;
-    struct refusal r = ind_reaction_stages_1_to_9(table, table_len, marks,
-                                                  marks_len, vars_len, &p);
+    struct refusal r = ind_reaction_stages_1_to_9(
+        table, table_bytes, marks, marks_bytes, variables_count, &p);
     if (r.number == 0)
         r = stage_10(event);
     if (r.number == 0)
-        r = stage_11(&p, out_len);
+        r = stage_11(&p, out_bytes);
     if (r.number != 0)
         return ind_refused_answer(r);
     ind_met_refusal(0);
-    vars[0] = value;
+    variables[0] = value;
     a = ind_run(&p, ind_tree_at_rest(&p, marks), input_event(event), marks,
-                vars, outputs_into(out, out_len));
+                variables, outputs_into(out, out_bytes));
     if (a.refused == 0)
         ind_add_to_totals(totals, a.steps);
     return a;
@@ -202,18 +206,17 @@ static void collect_awaited(const struct node *n, bool *awaited)
 /* "A query gives the number of different input events that now wake some
  * place, and the lowest of them (0 where none)."  It tests 1 to 8. */
 struct independent_query independent_query(const uint8_t *table,
-                                           size_t table_len,
+                                           size_t table_bytes,
                                            const uint8_t *marks,
-                                           size_t marks_len)
+                                           size_t marks_bytes)
 {
     struct independent_query q = {0, 0, 0, 0};
     bool awaited[LAST_NAME + 1] = {false};
     struct program p;
     struct node *tree;
-    uint32_t event;
-    struct refusal r = ind_stages_1_to_7(table, table_len, &p);
+    struct refusal r = ind_stages_1_to_7(table, table_bytes, &p);
     if (r.number == 0)
-        r = ind_stage_8(&p, marks, marks_len);
+        r = ind_stage_8(&p, marks, marks_bytes);
     q.refused = ind_met_refusal(r.number);
     q.place = r.place;
     if (r.number != 0)
@@ -221,7 +224,7 @@ struct independent_query independent_query(const uint8_t *table,
     tree = ind_tree_at_rest(&p, marks);
     collect_awaited(tree, awaited);
     ind_free(tree);
-    for (event = LAST_NAME; event >= 1; event--)
+    for (uint32_t event = LAST_NAME; event >= 1; event--)
         if (awaited[event]) {
             q.number++;
             q.lowest = event;
@@ -249,18 +252,18 @@ static uint8_t *write_records(const struct node *n, uint8_t *bytes)
 /* "Refusals 1 to 8, then 11 where the buffer has too few whole records; the
  * answer counts the records; bytes behind stay." */
 struct independent_remaining independent_remaining(
-    const uint8_t *table, size_t table_len, const uint8_t *marks,
-    size_t marks_len, uint8_t *out, size_t out_len)
+    const uint8_t *table, size_t table_bytes, const uint8_t *marks,
+    size_t marks_bytes, uint8_t *out, size_t out_bytes)
 {
     struct independent_remaining a = {0, 0, 0};
     struct program p;
     struct node *tree = NULL;
-    struct refusal r = ind_stages_1_to_7(table, table_len, &p);
+    struct refusal r = ind_stages_1_to_7(table, table_bytes, &p);
     if (r.number == 0)
-        r = ind_stage_8(&p, marks, marks_len);
+        r = ind_stage_8(&p, marks, marks_bytes);
     if (r.number == 0) {
         tree = ind_tree_at_rest(&p, marks);
-        if (out_len / RECORD_BYTES < ind_size(tree))
+        if (out_bytes / RECORD_BYTES < ind_size(tree))
             r = ind_refuse(11, 0);
     }
     a.refused = ind_met_refusal(r.number);

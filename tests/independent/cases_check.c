@@ -3,149 +3,173 @@
 
 #include "cases.h"
 
+/* The kinds have the numbers of the kinds table. */
+static void numbers_of_kinds(void)
+{
+    static const uint32_t kinds[] = {
+        NOTHING, SET,      ADD,         COPY,           SUBTRACT,       LESS,
+        DIVIDE,  OUTPUT,   AWAIT_INPUT, AWAIT_INTERNAL, EMIT,           BREAK,
+        IF,      SEQUENCE, LOOP,        EVERY_INPUT,    EVERY_INTERNAL, AND,
+        OR,      FIN,      AT_LOOP,     AT_AND,         AT_OR};
+    for (size_t i = 0; i < sizeof kinds / sizeof *kinds; i++)
+        expect_number("the number of a kind", kinds[i], (int64_t)i);
+}
+
 static void refusal_1(void)
 {
     struct session s;
-    open_session(&s, LINES({0, 0, 0}));
-    s.table_len = 0;
+    open_session(&s, LINES({NOTHING, 0, 0}));
+    s.table_bytes = 0;
     expect_check_refused("1: length 0", &s, 1, 0);
-    s.table_len = 7;
+    s.table_bytes = 7;
     expect_check_refused("1: 7 bytes, not a multiple of 8", &s, 1, 0);
-    s.table_len = 9;
+    s.table_bytes = 9;
     expect_check_refused("1: 9 bytes, not a multiple of 8", &s, 1, 0);
-    s.table_len = 2056;
+    s.table_bytes = 2056;
     expect_check_refused("1: over 2,048 bytes", &s, 1, 0);
-    s.table_len = 2047;
+    s.table_bytes = 2047;
     expect_check_refused("1: 2,047 bytes", &s, 1, 0);
 }
 
-/* Three records of a kind and a declared span each. */
-static void open_spans(struct session *s, const uint8_t kinds[3],
-                       const uint16_t spans[3])
-{
-    size_t i;
-    memset(s, 0, sizeof *s);
-    s->table_len = 24;
-    s->records = 3;
-    for (i = 0; i < 3; i++) {
-        s->table[i * 8] = kinds[i];
-        s->table[i * 8 + 2] = (uint8_t)(spans[i] & 0xff);
-        s->table[i * 8 + 3] = (uint8_t)(spans[i] >> 8);
-    }
-}
+/* A kind and the span that it declares. */
+struct shape {
+    uint8_t kind;
+    uint16_t span;
+};
 
-static void expect_spans(const char *name, uint8_t k0, uint16_t s0, uint8_t k1,
-                         uint16_t s1, uint8_t k2, uint16_t s2, uint32_t place)
+/* Three records of these shapes are refused 2 at the place. */
+static void expect_shapes(const char *name, struct shape first,
+                          struct shape second, struct shape third,
+                          uint32_t place)
 {
+    const struct shape shapes[3] = {first, second, third};
     struct session s;
-    uint8_t kinds[3];
-    uint16_t spans[3];
-    kinds[0] = k0;
-    kinds[1] = k1;
-    kinds[2] = k2;
-    spans[0] = s0;
-    spans[1] = s1;
-    spans[2] = s2;
-    open_spans(&s, kinds, spans);
+    memset(&s, 0, sizeof s);
+    s.records = 3;
+    s.table_bytes = s.records * RECORD_BYTES;
+    for (size_t i = 0; i < s.records; i++) {
+        uint8_t *record = s.table + i * RECORD_BYTES;
+        record[0] = shapes[i].kind;
+        record[2] = (uint8_t)(shapes[i].span & 0xff);
+        record[3] = (uint8_t)(shapes[i].span >> 8);
+    }
     expect_check_refused(name, &s, 2, place);
 }
+
+#define SHAPE(kind, span) ((struct shape){kind, span})
 
 static void refusal_2(void)
 {
     struct session s;
-    expect_spans("2: kind 20", 13, 3, 0, 1, 20, 1, 2);
-    expect_spans("2: kind 255 first", 255, 3, 0, 1, 20, 1, 0);
-    expect_spans("2: a leaf of span 0", 13, 2, 0, 1, 0, 0, 0);
-    expect_spans("2: record 0 not spanning all", 14, 2, 0, 1, 0, 1, 0);
-    expect_spans("2: record 0 a leaf before others", 0, 1, 0, 1, 0, 1, 0);
-    expect_spans("2: declared spans decide, so the parent fails", 13, 3, 0, 2,
-                 0, 1, 0);
-    expect_spans("2: the second child past the end", 13, 3, 14, 2, 0, 1, 0);
-    expect_spans("2: a child past the end", 14, 3, 14, 2, 14, 1, 2);
-    expect_spans("2: the lower place first", 14, 3, 14, 2, 20, 5, 1);
-    expect_spans("2: high byte of the span counts", 13, 3 + 256, 0, 1, 0, 1,
-                 0);
-    open_session(&s, LINES({20, 0, 0}));
+    expect_shapes("2: kind 20", SHAPE(SEQUENCE, 3), SHAPE(NOTHING, 1),
+                  SHAPE(AT_LOOP, 1), 2);
+    expect_shapes("2: kind 255 first", SHAPE(255, 3), SHAPE(NOTHING, 1),
+                  SHAPE(AT_LOOP, 1), 0);
+    expect_shapes("2: a leaf of span 0", SHAPE(SEQUENCE, 2), SHAPE(NOTHING, 1),
+                  SHAPE(NOTHING, 0), 0);
+    expect_shapes("2: record 0 not spanning all", SHAPE(LOOP, 2),
+                  SHAPE(NOTHING, 1), SHAPE(NOTHING, 1), 0);
+    expect_shapes("2: record 0 a leaf before others", SHAPE(NOTHING, 1),
+                  SHAPE(NOTHING, 1), SHAPE(NOTHING, 1), 0);
+    expect_shapes("2: declared spans decide, so the parent fails",
+                  SHAPE(SEQUENCE, 3), SHAPE(NOTHING, 2), SHAPE(NOTHING, 1), 0);
+    expect_shapes("2: the second child past the end", SHAPE(SEQUENCE, 3),
+                  SHAPE(LOOP, 2), SHAPE(NOTHING, 1), 0);
+    expect_shapes("2: a child past the end", SHAPE(LOOP, 3), SHAPE(LOOP, 2),
+                  SHAPE(LOOP, 1), 2);
+    expect_shapes("2: the lower place first", SHAPE(LOOP, 3), SHAPE(LOOP, 2),
+                  SHAPE(AT_LOOP, 5), 1);
+    expect_shapes("2: high byte of the span counts", SHAPE(SEQUENCE, 3 + 256),
+                  SHAPE(NOTHING, 1), SHAPE(NOTHING, 1), 0);
+    open_session(&s, LINES({AT_LOOP, 0, 0}));
     expect_check_refused("2: kind 20 alone, @loop is in no program", &s, 2, 0);
-    open_session(&s, LINES({1, 0, 0}));
+    open_session(&s, LINES({SET, 0, 0}));
     s.table[2] = 2;
     expect_check_refused("2 comes before 3", &s, 2, 0);
+}
+
+/* (nothing; the record), with what the record needs below it. */
+static void open_record(struct session *s, struct line record)
+{
+    bool plain = record.kind == EVERY_INPUT || record.kind == EVERY_INTERNAL ||
+                 record.kind == FIN;
+    struct line lines[5] = {{SEQUENCE, 0, 0},
+                            {NOTHING, 0, 0},
+                            record,
+                            {NOTHING, 0, 0},
+                            {NOTHING, 0, 0}};
+    if (!plain)
+        lines[3] = (struct line){AWAIT_INPUT, 1, 0};
+    open_session(s, lines, 3 + children(record.kind));
 }
 
 static void expect_3(uint32_t kind, uint32_t name, int32_t number,
                      bool refused)
 {
     struct session s;
-    size_t count = kind >= 14 && kind != 17 && kind != 18 ? 2 : 3;
-    struct line lines[5] = {{13, 0, 0}, {0, 0, 0}, {0, 0, 0}, {0, 0, 0},
-                            {0, 0, 0}};
-    if (kind <= 11)
-        count = 1;
-    lines[2] = (struct line){kind, name, number};
-    lines[3] = (struct line){8, 1, 0};
-    if (kind == 15 || kind == 16 || kind == 19)
-        lines[3] = (struct line){0, 0, 0};
-    open_session(&s, lines, count + 2);
-    if (kind == 11) { /* a break in range is refused 4 */
+    open_record(&s, (struct line){kind, name, number});
+    if (kind == BREAK) /* a break in range is refused 4 */
         expect_number("3: break", check(&s).refused, refused ? 3 : 4);
-        return;
-    }
-    if (refused)
+    else if (refused)
         expect_check_refused("3: name or number outside the table", &s, 3, 2);
     else
-        expect_number("3: name and number inside the table",
-                      check(&s).refused, 0);
+        expect_number("3: name and number inside the table", check(&s).refused,
+                      0);
 }
 
 static void refusal_3(void)
 {
-    uint32_t kind;
-    for (kind = 0; kind <= 19; kind++) {
-        bool v = (kind >= 1 && kind <= 10) || kind == 15 || kind == 16;
-        bool named = v || kind == 12;
-        bool any = kind == 1 || kind == 2;
-        bool w = kind >= 3 && kind <= 7;
+    for (uint32_t kind = 0; kind <= LAST_KIND; kind++) {
+        bool v = (kind >= SET && kind <= EMIT) || kind == EVERY_INPUT ||
+                 kind == EVERY_INTERNAL;
+        bool named = v || kind == IF;
+        bool any = kind == SET || kind == ADD;
+        bool w = kind >= COPY && kind <= OUTPUT;
+        uint32_t name = v ? 1 : 0;
         expect_3(kind, 0, 0, v);
         expect_3(kind, 1, 0, !named);
         expect_3(kind, 63, 0, !named);
         expect_3(kind, 64, 0, true);
         expect_3(kind, 255, 0, true);
-        expect_3(kind, v ? 1 : 0, 1, !any && !w);
-        expect_3(kind, v ? 1 : 0, 63, !any && !w);
-        expect_3(kind, v ? 1 : 0, 64, !any);
-        expect_3(kind, v ? 1 : 0, -1, !any);
-        expect_3(kind, v ? 1 : 0, INT32_MIN, !any);
-        expect_3(kind, v ? 1 : 0, INT32_MAX, !any);
-        expect_3(kind, v ? 1 : 0, 256, !any);
+        expect_3(kind, name, 1, !any && !w);
+        expect_3(kind, name, 63, !any && !w);
+        expect_3(kind, name, 64, !any);
+        expect_3(kind, name, -1, !any);
+        expect_3(kind, name, INT32_MIN, !any);
+        expect_3(kind, name, INT32_MAX, !any);
+        expect_3(kind, name, 256, !any);
     }
 }
 
 static void refusals_4_and_5(void)
 {
     struct session s;
-    open_session(&s, LINES({13, 0, 0}, {11, 0, 0}, {11, 0, 0}));
+    open_session(&s, LINES({SEQUENCE, 0, 0}, {BREAK, 0, 0}, {BREAK, 0, 0}));
     expect_check_refused("4: a break with no loop around it", &s, 4, 1);
-    open_session(&s, LINES({13, 0, 0}, {14, 0, 0}, {11, 0, 0}, {11, 0, 0}));
+    open_session(&s, LINES({SEQUENCE, 0, 0}, {LOOP, 0, 0}, {BREAK, 0, 0},
+                           {BREAK, 0, 0}));
     expect_check_refused("4: a break behind a loop", &s, 4, 3);
-    open_session(&s, LINES({15, 1, 0}, {11, 0, 0}));
+    open_session(&s, LINES({EVERY_INPUT, 1, 0}, {BREAK, 0, 0}));
     expect_check_refused("4 comes before 5", &s, 4, 1);
-    open_session(&s, LINES({14, 0, 0}, {19, 0, 0}, {11, 0, 0}));
+    open_session(&s, LINES({LOOP, 0, 0}, {FIN, 0, 0}, {BREAK, 0, 0}));
     expect_check_refused("5: a break under a fin in a loop", &s, 5, 2);
-    open_session(&s, LINES({13, 0, 0}, {15, 1, 0}, {13, 0, 0}, {12, 1, 0},
-                           {0, 0, 0}, {8, 1, 0}, {10, 1, 0}, {19, 0, 0},
-                           {0, 0, 0}));
+    open_session(&s,
+                 LINES({SEQUENCE, 0, 0}, {EVERY_INPUT, 1, 0}, {SEQUENCE, 0, 0},
+                       {IF, 1, 0}, {NOTHING, 0, 0}, {AWAIT_INPUT, 1, 0},
+                       {EMIT, 1, 0}, {FIN, 0, 0}, {NOTHING, 0, 0}));
     /* sequence, every, sequence, if, nothing, await, emit, fin, nothing */
     expect_check_refused("5: an await under an every, at any depth", &s, 5, 5);
-    open_session(&s, LINES({16, 1, 0}, {10, 1, 0}));
+    open_session(&s, LINES({EVERY_INTERNAL, 1, 0}, {EMIT, 1, 0}));
     expect_check_refused("5: an emit under an every", &s, 5, 1);
-    open_session(&s, LINES({19, 0, 0}, {19, 0, 0}, {0, 0, 0}));
+    open_session(&s, LINES({FIN, 0, 0}, {FIN, 0, 0}, {NOTHING, 0, 0}));
     expect_check_refused("5: a fin under a fin", &s, 5, 1);
-    open_session(&s, LINES({19, 0, 0}, {17, 0, 0}, {0, 0, 0}, {0, 0, 0}));
+    open_session(
+        &s, LINES({FIN, 0, 0}, {AND, 0, 0}, {NOTHING, 0, 0}, {NOTHING, 0, 0}));
     expect_check_refused("5: an and under a fin", &s, 5, 1);
-    open_session(&s, LINES({19, 0, 0}, {14, 0, 0}, {0, 0, 0}));
+    open_session(&s, LINES({FIN, 0, 0}, {LOOP, 0, 0}, {NOTHING, 0, 0}));
     expect_check_refused("5 comes before 7", &s, 5, 1);
-    open_session(&s, LINES({13, 0, 0}, {14, 0, 0}, {0, 0, 0}, {19, 0, 0},
-                           {9, 1, 0}));
+    open_session(&s, LINES({SEQUENCE, 0, 0}, {LOOP, 0, 0}, {NOTHING, 0, 0},
+                           {FIN, 0, 0}, {AWAIT_INTERNAL, 1, 0}));
     expect_check_refused("5 at a higher place comes before 7", &s, 5, 4);
 }
 
@@ -153,32 +177,36 @@ static void refusals_6_and_7(void)
 {
     struct line lines[14];
     struct session s;
-    size_t i;
-    for (i = 0; i < 12; i++)
-        lines[i] = (struct line){14, 0, 0};
-    lines[12] = (struct line){0, 0, 0};
+    for (size_t i = 0; i < 12; i++)
+        lines[i] = (struct line){LOOP, 0, 0};
+    lines[12] = (struct line){NOTHING, 0, 0};
     open_session(&s, lines, 13);
     expect_check_refused("6: the lowest loop inside eight others, before 7",
                          &s, 6, 8);
-    open_session(&s, LINES({13, 0, 0}, {14, 0, 0}, {8, 1, 0}, {14, 0, 0},
-                           {9, 1, 0}));
+    open_session(&s, LINES({SEQUENCE, 0, 0}, {LOOP, 0, 0}, {AWAIT_INPUT, 1, 0},
+                           {LOOP, 0, 0}, {AWAIT_INTERNAL, 1, 0}));
     expect_check_refused("7: an internal await is no guard", &s, 7, 3);
-    open_session(&s, LINES({14, 0, 0}, {12, 1, 0}, {8, 1, 0}, {0, 0, 0}));
+    open_session(&s, LINES({LOOP, 0, 0}, {IF, 1, 0}, {AWAIT_INPUT, 1, 0},
+                           {NOTHING, 0, 0}));
     expect_check_refused("7: if where either child may", &s, 7, 0);
-    open_session(&s, LINES({14, 0, 0}, {13, 0, 0}, {0, 0, 0}, {10, 1, 0}));
+    open_session(&s, LINES({LOOP, 0, 0}, {SEQUENCE, 0, 0}, {NOTHING, 0, 0},
+                           {EMIT, 1, 0}));
     expect_check_refused("7: a sequence where both may", &s, 7, 0);
-    open_session(&s, LINES({14, 0, 0}, {13, 0, 0}, {0, 0, 0}, {11, 0, 0}));
+    open_session(&s, LINES({LOOP, 0, 0}, {SEQUENCE, 0, 0}, {NOTHING, 0, 0},
+                           {BREAK, 0, 0}));
     expect_number("7: a break may not end at once", check(&s).refused, 0);
-    open_session(&s, LINES({14, 0, 0}, {14, 0, 0}, {8, 1, 0}));
+    open_session(&s, LINES({LOOP, 0, 0}, {LOOP, 0, 0}, {AWAIT_INPUT, 1, 0}));
     expect_number("7: a loop with no break of its own may not",
                   check(&s).refused, 0);
-    open_session(&s, LINES({14, 0, 0}, {13, 0, 0}, {14, 0, 0}, {11, 0, 0},
-                           {8, 1, 0}));
+    open_session(&s, LINES({LOOP, 0, 0}, {SEQUENCE, 0, 0}, {LOOP, 0, 0},
+                           {BREAK, 0, 0}, {AWAIT_INPUT, 1, 0}));
     expect_number("7: a loop that may, then an await", check(&s).refused, 0);
-    open_session(&s, LINES({14, 0, 0}, {14, 0, 0}, {14, 0, 0}, {11, 0, 0}));
+    open_session(
+        &s, LINES({LOOP, 0, 0}, {LOOP, 0, 0}, {LOOP, 0, 0}, {BREAK, 0, 0}));
     expect_check_refused("7: the break belongs to the nearest loop", &s, 7, 1);
-    open_session(&s, LINES({14, 0, 0}, {18, 0, 0}, {19, 0, 0}, {0, 0, 0},
-                           {15, 1, 0}, {0, 0, 0}));
+    open_session(&s,
+                 LINES({LOOP, 0, 0}, {OR, 0, 0}, {FIN, 0, 0}, {NOTHING, 0, 0},
+                       {EVERY_INPUT, 1, 0}, {NOTHING, 0, 0}));
     expect_number("7: fin and every may not", check(&s).refused, 0);
 }
 
@@ -188,10 +216,12 @@ static void announced(void)
     struct independent_checked c;
     /* loop (every 1 (out; out) and (await 1; (emit; (emit; out))));
      * fin out */
-    open_session(&s, LINES({13, 0, 0}, {14, 0, 0}, {17, 0, 0}, {16, 1, 0},
-                           {13, 0, 0}, {7, 1, 0}, {7, 1, 0}, {13, 0, 0},
-                           {8, 1, 0}, {13, 0, 0}, {10, 1, 0}, {13, 0, 0},
-                           {10, 2, 0}, {7, 1, 0}, {19, 0, 0}, {7, 1, 0}));
+    open_session(
+        &s, LINES({SEQUENCE, 0, 0}, {LOOP, 0, 0}, {AND, 0, 0},
+                  {EVERY_INTERNAL, 1, 0}, {SEQUENCE, 0, 0}, {OUTPUT, 1, 0},
+                  {OUTPUT, 1, 0}, {SEQUENCE, 0, 0}, {AWAIT_INPUT, 1, 0},
+                  {SEQUENCE, 0, 0}, {EMIT, 1, 0}, {SEQUENCE, 0, 0},
+                  {EMIT, 2, 0}, {OUTPUT, 1, 0}, {FIN, 0, 0}, {OUTPUT, 1, 0}));
     c = check(&s);
     expect_number("announced: accepted", c.refused, 0);
     expect_number("announced: X = E(D+1)", c.emitted, 2 * 2);
@@ -204,6 +234,7 @@ static void announced(void)
 
 void cases_check(void)
 {
+    numbers_of_kinds();
     refusal_1();
     refusal_2();
     refusal_3();

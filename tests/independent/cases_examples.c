@@ -1,4 +1,4 @@
-/* The examples 1 to 13 of the scope paper, every number it gives. */
+/* The examples 1 to 13 of document 01, every number it gives. */
 #include <string.h>
 
 #include "cases.h"
@@ -6,14 +6,14 @@
 static void examples_1_to_3(void)
 {
     struct session s;
-    open_session(&s, LINES({0, 0, 0}));
+    open_session(&s, LINES({NOTHING, 0, 0}));
     expect_answer("example 1: nothing takes 2 steps, finished", start(&s), 2,
                   0, 1, 0, true);
-    open_session(&s, LINES({1, 1, 5}));
+    open_session(&s, LINES({SET, 1, 5}));
     expect_answer("example 2: v1 := 5 takes 3 steps", start(&s), 3, 0, 1, 0,
                   true);
-    expect_number("example 2: v1 is 5", s.vars[1], 5);
-    open_session(&s, LINES({8, 1, 0}));
+    expect_number("example 2: v1 is 5", s.variables[1], 5);
+    open_session(&s, LINES({AWAIT_INPUT, 1, 0}));
     expect_number("example 3: announced steps 8", check(&s).steps, 8);
     expect_answer("example 3: await 1 takes 2 steps", start(&s), 2, 0, 1, 0,
                   false);
@@ -27,9 +27,10 @@ static void example_4(void)
 {
     struct session s;
     struct independent_checked c;
-    open_session(&s, LINES({17, 0, 0}, {13, 0, 0}, {9, 1, 0}, {7, 1, 1},
-                           {13, 0, 0}, {1, 1, 7}, {13, 0, 0}, {10, 1, 0},
-                           {1, 1, 9}));
+    open_session(&s,
+                 LINES({AND, 0, 0}, {SEQUENCE, 0, 0}, {AWAIT_INTERNAL, 1, 0},
+                       {OUTPUT, 1, 1}, {SEQUENCE, 0, 0}, {SET, 1, 7},
+                       {SEQUENCE, 0, 0}, {EMIT, 1, 0}, {SET, 1, 9}));
     c = check(&s);
     expect_number("example 4: announced 67", c.steps, 67);
     expect_number("example 4: announced internal events 1", c.emitted, 1);
@@ -38,13 +39,13 @@ static void example_4(void)
     expect_answer("example 4: 16 steps, highest level 2", start(&s), 16, 1, 2,
                   1, true);
     expect_output("example 4: output 7", &s, 0, 1, 7);
-    expect_number("example 4: v1 = 9", s.vars[1], 9);
+    expect_number("example 4: v1 = 9", s.variables[1], 9);
 }
 
 static void example_5(void)
 {
     struct session s;
-    open_session(&s, LINES({14, 0, 0}, {13, 0, 0}, {8, 1, 0}, {7, 1, 0}));
+    open_echo(&s);
     expect_number("example 5: announced steps 46", check(&s).steps, 46);
     expect_number("example 5: announced outputs 2", check(&s).outputs, 2);
     expect_answer("example 5: start takes 3 steps", start(&s), 3, 0, 1, 0,
@@ -60,7 +61,8 @@ static void example_6(void)
 {
     static const uint8_t marks[4] = {0, 1, 0, 1};
     struct session s;
-    open_session(&s, LINES({18, 0, 0}, {19, 0, 0}, {7, 2, 0}, {8, 1, 0}));
+    open_session(&s, LINES({OR, 0, 0}, {FIN, 0, 0}, {OUTPUT, 2, 0},
+                           {AWAIT_INPUT, 1, 0}));
     expect_answer("example 6: start takes 5 steps", start(&s), 5, 0, 1, 0,
                   false);
     expect("example 6: marks 0 1 0 1", memcmp(s.marks, marks, 4) == 0);
@@ -72,12 +74,13 @@ static void example_6(void)
 static void examples_7_and_8(void)
 {
     struct session s;
-    open_session(&s, LINES({15, 1, 0}, {7, 1, 0}));
+    open_session(&s, LINES({EVERY_INPUT, 1, 0}, {OUTPUT, 1, 0}));
     start(&s);
     expect_answer("example 7: event 1 takes 4 steps", react(&s, 1, 8), 4, 0, 1,
                   1, false);
     expect_output("example 7: output of v0", &s, 0, 1, 8);
-    open_session(&s, LINES({18, 0, 0}, {8, 1, 0}, {8, 1, 0}));
+    open_session(&s,
+                 LINES({OR, 0, 0}, {AWAIT_INPUT, 1, 0}, {AWAIT_INPUT, 1, 0}));
     start(&s);
     expect_answer("example 8: event 1 takes 3 steps", react(&s, 1, 0), 3, 0, 1,
                   0, true);
@@ -86,24 +89,27 @@ static void examples_7_and_8(void)
 static void examples_9_to_11(void)
 {
     struct session s;
-    open_session(&s, LINES({14, 0, 0}, {18, 0, 0}, {9, 1, 0}, {10, 1, 0}));
+    open_session(&s, LINES({LOOP, 0, 0}, {OR, 0, 0}, {AWAIT_INTERNAL, 1, 0},
+                           {EMIT, 1, 0}));
     expect_check_refused("example 9: refused 7 at 0", &s, 7, 0);
-    open_session(&s, LINES({14, 0, 0}, {17, 0, 0}, {8, 1, 0}, {0, 0, 0}));
+    open_session(&s, LINES({LOOP, 0, 0}, {AND, 0, 0}, {AWAIT_INPUT, 1, 0},
+                           {NOTHING, 0, 0}));
     expect_number("example 10: with and accepted", check(&s).refused, 0);
-    open_session(&s, LINES({14, 0, 0}, {18, 0, 0}, {8, 1, 0}, {0, 0, 0}));
+    open_session(&s, LINES({LOOP, 0, 0}, {OR, 0, 0}, {AWAIT_INPUT, 1, 0},
+                           {NOTHING, 0, 0}));
     expect_check_refused("example 10: with or refused 7 at 0", &s, 7, 0);
-    open_session(&s, LINES({14, 0, 0}, {14, 0, 0}, {13, 0, 0}, {8, 1, 0},
-                           {11, 0, 0}));
+    open_session(&s, LINES({LOOP, 0, 0}, {LOOP, 0, 0}, {SEQUENCE, 0, 0},
+                           {AWAIT_INPUT, 1, 0}, {BREAK, 0, 0}));
     expect_check_refused("example 11: refused 7 at 0", &s, 7, 0);
 }
 
 static int32_t quotient(int32_t v, int32_t w)
 {
     struct session s;
-    open_session(&s, LINES({13, 0, 0}, {1, 1, v}, {13, 0, 0}, {1, 2, w},
-                           {6, 1, 2}));
+    open_session(&s, LINES({SEQUENCE, 0, 0}, {SET, 1, v}, {SEQUENCE, 0, 0},
+                           {SET, 2, w}, {DIVIDE, 1, 2}));
     start(&s);
-    return s.vars[1];
+    return s.variables[1];
 }
 
 static void example_12(void)
@@ -114,27 +120,26 @@ static void example_12(void)
     expect_number("division by 0 gives 0", quotient(7, 0), 0);
     expect_number("-2147483648 / -1 is -2147483648", quotient(INT32_MIN, -1),
                   INT32_MIN);
-    open_session(&s, LINES({13, 0, 0}, {1, 1, -9}, {4, 1, 1}));
+    open_session(&s, LINES({SEQUENCE, 0, 0}, {SET, 1, -9}, {SUBTRACT, 1, 1}));
     start(&s);
-    expect_number("example 12: a variable minus itself 0", s.vars[1], 0);
-    open_session(&s, LINES({13, 0, 0}, {1, 1, -9}, {5, 1, 1}));
+    expect_number("example 12: a variable minus itself 0", s.variables[1], 0);
+    open_session(&s, LINES({SEQUENCE, 0, 0}, {SET, 1, -9}, {LESS, 1, 1}));
     start(&s);
-    expect_number("example 12: less than itself 0", s.vars[1], 0);
+    expect_number("example 12: less than itself 0", s.variables[1], 0);
 }
 
 /* count records: sequences with nothing on the left, one record at the end. */
 static void open_long(struct session *s, size_t count)
 {
     struct line lines[258];
-    size_t i;
-    for (i = 0; i < count; i++) {
-        lines[i].kind = i % 2 == 0 && i + 1 < count ? 13 : 0;
+    for (size_t i = 0; i < count; i++) {
+        lines[i].kind = i % 2 == 0 && i + 1 < count ? SEQUENCE : NOTHING;
         lines[i].name = 0;
         lines[i].number = 0;
     }
     if (count % 2 == 0) { /* the last pair: a fin of nothing */
-        lines[count - 2].kind = 19;
-        lines[count - 1].kind = 0;
+        lines[count - 2].kind = FIN;
+        lines[count - 1].kind = NOTHING;
     }
     open_session(s, lines, count);
 }
@@ -142,10 +147,9 @@ static void open_long(struct session *s, size_t count)
 static void open_nested_loops(struct session *s, size_t loops)
 {
     struct line lines[16];
-    size_t i;
-    for (i = 0; i < loops; i++)
-        lines[i] = (struct line){14, 0, 0};
-    lines[loops] = (struct line){8, 1, 0};
+    for (size_t i = 0; i < loops; i++)
+        lines[i] = (struct line){LOOP, 0, 0};
+    lines[loops] = (struct line){AWAIT_INPUT, 1, 0};
     open_session(s, lines, loops + 1);
 }
 

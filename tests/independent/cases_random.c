@@ -17,20 +17,10 @@ struct trial {
     struct program p;
     struct independent_checked announced;
     uint8_t *table, *marks, *out;
-    int32_t *vars;
-    size_t table_len, out_len;
+    int32_t *variables;
+    size_t table_bytes, out_bytes;
     struct independent_totals totals, sum;
 };
-
-static void *room_for(size_t bytes)
-{
-    void *room = calloc(bytes == 0 ? 1 : bytes, 1);
-    if (room == NULL) {
-        fputs("out of memory\n", stderr);
-        exit(EXIT_FAILURE);
-    }
-    return room;
-}
 
 static void open_trial(struct trial *t, struct chance *chance, size_t most)
 {
@@ -38,15 +28,15 @@ static void open_trial(struct trial *t, struct chance *chance, size_t most)
     size_t records = draw_program(chance, table, most);
     memset(t, 0, sizeof *t);
     t->chance = chance;
-    t->table_len = records * RECORD_BYTES;
-    t->table = room_for(t->table_len);
-    memcpy(t->table, table, t->table_len);
-    ind_stages_1_to_7(t->table, t->table_len, &t->p);
-    t->announced = independent_check(t->table, t->table_len);
-    t->out_len = (size_t)t->announced.outputs * RECORD_BYTES;
+    t->table_bytes = records * RECORD_BYTES;
+    t->table = room_for(t->table_bytes);
+    memcpy(t->table, table, t->table_bytes);
+    ind_stages_1_to_7(t->table, t->table_bytes, &t->p);
+    t->announced = independent_check(t->table, t->table_bytes);
+    t->out_bytes = (size_t)t->announced.outputs * RECORD_BYTES;
     t->marks = room_for(records);
-    t->out = room_for(t->out_len);
-    t->vars = room_for(VARIABLES * sizeof *t->vars);
+    t->out = room_for(t->out_bytes);
+    t->variables = room_for(VARIABLES * sizeof *t->variables);
 }
 
 static void close_trial(struct trial *t)
@@ -54,21 +44,21 @@ static void close_trial(struct trial *t)
     free(t->table);
     free(t->marks);
     free(t->out);
-    free(t->vars);
+    free(t->variables);
 }
 
 /* Steps the tree by hand; the final tree, and the steps taken. */
 static struct node *final_tree(struct trial *t, struct node *tree,
                                uint32_t event, int32_t value, uint64_t *steps)
 {
-    struct description d = {NULL, 0, {INPUT_EVENT, 0}, NULL, {NULL, 0, 0}, 0,
-                            0};
-    int32_t vars[VARIABLES];
-    memcpy(vars, t->vars, sizeof vars);
-    vars[0] = value;
+    struct description d = {NULL, 0, {INPUT_EVENT, 0}, NULL, {NULL, 0, 0},
+                            0,    0};
+    int32_t variables[VARIABLES];
+    memcpy(variables, t->variables, sizeof variables);
+    variables[0] = value;
     d.tree = tree;
     d.pending.number = event;
-    d.vars = vars;
+    d.variables = variables;
     *steps = 0;
     while (!ind_ended(&d)) {
         if (*steps > t->announced.steps || ind_step(&d) == RULE_NONE) {
@@ -115,8 +105,8 @@ static void random_start(struct trial *t)
     struct independent_answer a;
     struct node *final =
         final_tree(t, ind_program_tree(&t->p, 0), 0, 0, &steps);
-    a = independent_start(t->table, t->table_len, t->marks, t->p.count,
-                          t->vars, VARIABLES, t->out, t->out_len);
+    a = independent_start(t->table, t->table_bytes, t->marks, t->p.count,
+                          t->variables, VARIABLES, t->out, t->out_bytes);
     expect_bounds(t, a);
     expect_same_end(t, final, steps, a);
 }
@@ -127,11 +117,11 @@ static void random_reaction(struct trial *t)
     int32_t value = (int32_t)draw(t->chance, 5) - 2;
     uint64_t steps;
     struct independent_answer a;
-    struct node *final = final_tree(t, ind_tree_at_rest(&t->p, t->marks),
-                                    event, value, &steps);
-    a = independent_react(t->table, t->table_len, t->marks, t->p.count,
-                          t->vars, VARIABLES, event, value, t->out, t->out_len,
-                          &t->totals);
+    struct node *final =
+        final_tree(t, ind_tree_at_rest(&t->p, t->marks), event, value, &steps);
+    a = independent_react(t->table, t->table_bytes, t->marks, t->p.count,
+                          t->variables, VARIABLES, event, value, t->out,
+                          t->out_bytes, &t->totals);
     expect_bounds(t, a);
     expect_same_end(t, final, steps, a);
     t->sum.reactions++;
@@ -143,13 +133,13 @@ static void random_reaction(struct trial *t)
 /* Query and remaining program of the marks as they stand. */
 static void random_looks(struct trial *t)
 {
-    struct independent_query q = independent_query(t->table, t->table_len,
-                                                   t->marks, t->p.count);
+    struct independent_query q =
+        independent_query(t->table, t->table_bytes, t->marks, t->p.count);
     struct node *rest = ind_tree_at_rest(&t->p, t->marks);
     size_t size = ind_size(rest) * RECORD_BYTES;
     uint8_t *out = room_for(size);
     struct independent_remaining r = independent_remaining(
-        t->table, t->table_len, t->marks, t->p.count, out, size);
+        t->table, t->table_bytes, t->marks, t->p.count, out, size);
     expect("random: a query is not refused", q.refused == 0);
     expect("random: the lowest event is 0 where none",
            (q.number == 0) == (q.lowest == 0));
@@ -164,14 +154,13 @@ static void random_looks(struct trial *t)
 static void random_trial(struct chance *chance, size_t most)
 {
     struct trial t;
-    int round, event;
     open_trial(&t, chance, most);
-    for (round = 0; round < ROUNDS; round++) {
+    for (int round = 0; round < ROUNDS; round++) {
         if (round % 2 == 0)
             random_start(&t);
         else
             draw_marks(chance, &t.p, t.marks);
-        for (event = 0; event < EVENTS; event++) {
+        for (int event = 0; event < EVENTS; event++) {
             random_looks(&t);
             random_reaction(&t);
         }
@@ -182,14 +171,13 @@ static void random_trial(struct chance *chance, size_t most)
 static void expect_all_met(void)
 {
     const struct independent_coverage *c = independent_coverage_read();
-    int i;
     char name[120];
-    for (i = RULE_PUSH; i < INDEPENDENT_RULES; i++) {
+    for (int i = RULE_PUSH; i < INDEPENDENT_RULES; i++) {
         snprintf(name, sizeof name, "random: rule met: %s",
                  independent_rule_name((enum independent_rule)i));
         expect(name, c->rules[i] > 0);
     }
-    for (i = 0; i < INDEPENDENT_KINDS; i++) {
+    for (int i = 0; i < INDEPENDENT_KINDS; i++) {
         snprintf(name, sizeof name, "random: kind met: %d", i);
         expect(name, c->kinds[i] > 0);
     }
@@ -199,12 +187,11 @@ static void expect_all_met(void)
 void cases_random(uint64_t seed)
 {
     struct chance chance;
-    int i;
     chance.state = seed * UINT64_C(2654435769) + 1;
     independent_coverage_reset();
-    for (i = 0; i < PROGRAMS; i++)
+    for (int i = 0; i < PROGRAMS; i++)
         random_trial(&chance, 4 + (size_t)i % 30);
-    for (i = 0; i < BIG_PROGRAMS; i++)
+    for (int i = 0; i < BIG_PROGRAMS; i++)
         random_trial(&chance, 250);
     expect_all_met();
 }

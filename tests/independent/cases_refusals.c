@@ -7,10 +7,11 @@
  * (await internal 5 and fin nothing) */
 static void open_marks(struct session *s)
 {
-    open_session(s, LINES({13, 0, 0}, {13, 0, 0}, {18, 0, 0}, {8, 1, 0},
-                          {8, 2, 0}, {12, 1, 0}, {8, 3, 0}, {15, 4, 0},
-                          {0, 0, 0}, {17, 0, 0}, {9, 5, 0}, {19, 0, 0},
-                          {0, 0, 0}));
+    open_session(s, LINES({SEQUENCE, 0, 0}, {SEQUENCE, 0, 0}, {OR, 0, 0},
+                          {AWAIT_INPUT, 1, 0}, {AWAIT_INPUT, 2, 0}, {IF, 1, 0},
+                          {AWAIT_INPUT, 3, 0}, {EVERY_INPUT, 4, 0},
+                          {NOTHING, 0, 0}, {AND, 0, 0}, {AWAIT_INTERNAL, 5, 0},
+                          {FIN, 0, 0}, {NOTHING, 0, 0}));
 }
 
 static void expect_8(const char *name, const char *marks, uint32_t number,
@@ -20,16 +21,15 @@ static void expect_8(const char *name, const char *marks, uint32_t number,
     struct independent_query q;
     struct independent_remaining r;
     struct independent_answer a;
-    size_t i;
     open_marks(&s);
-    for (i = 0; i < s.records; i++)
+    for (size_t i = 0; i < s.records; i++)
         s.marks[i] = (uint8_t)(marks[i] - '0');
     before = s;
-    q = independent_query(s.table, s.table_len, s.marks, s.records);
+    q = independent_query(s.table, s.table_bytes, s.marks, s.records);
     expect_number(name, q.refused, number);
     expect_number(name, q.place, place);
-    r = independent_remaining(s.table, s.table_len, s.marks, s.records, s.out,
-                              sizeof s.out);
+    r = independent_remaining(s.table, s.table_bytes, s.marks, s.records,
+                              s.out, sizeof s.out);
     expect_number(name, r.refused, number);
     expect_number(name, r.place, place);
     if (number == 0)
@@ -75,14 +75,14 @@ static void refusal_8_length(void)
     s.marks[3] = 2;
     expect_refused("8: the length comes before the bytes", react(&s, 1, 1), 8,
                    0);
-    expect_number("8: a query tests the length",
-                  independent_query(s.table, s.table_len, s.marks, 0).refused,
-                  8);
+    expect_number(
+        "8: a query tests the length",
+        independent_query(s.table, s.table_bytes, s.marks, 0).refused, 8);
     s.marks[3] = 0;
     s.records++;
-    expect("8: nothing changed", memcmp(&before.marks, &s.marks,
-                                        sizeof s - offsetof(struct session,
-                                                            marks)) == 0);
+    expect("8: nothing changed",
+           memcmp(&before.marks, &s.marks,
+                  sizeof s - offsetof(struct session, marks)) == 0);
     memset(s.marks, 7, s.records);
     expect_answer("a start reads no mark and writes every one", start(&s), 5,
                   0, 1, 0, false);
@@ -90,18 +90,19 @@ static void refusal_8_length(void)
 }
 
 static struct independent_answer react_lengths(struct session *s,
-                                               size_t vars_len, uint32_t event,
-                                               size_t out_len)
+                                               size_t variables_count,
+                                               uint32_t event,
+                                               size_t out_bytes)
 {
-    return independent_react(s->table, s->table_len, s->marks, s->records,
-                             s->vars, vars_len, event, 5, s->out, out_len,
-                             &s->totals);
+    return independent_react(s->table, s->table_bytes, s->marks, s->records,
+                             s->variables, variables_count, event, 5, s->out,
+                             out_bytes, &s->totals);
 }
 
 static void refusals_9_to_11(void)
 {
     struct session s, before;
-    open_session(&s, LINES({14, 0, 0}, {13, 0, 0}, {8, 1, 0}, {7, 1, 0}));
+    open_echo(&s);
     start(&s);
     before = s;
     expect_refused("9: 63 variables", react_lengths(&s, 63, 0, 0), 9, 0);
@@ -111,8 +112,8 @@ static void refusals_9_to_11(void)
     expect_refused("10: event 64", react_lengths(&s, 64, 64, 16), 10, 0);
     expect_refused("10: event 257 is not event 1",
                    react_lengths(&s, 64, 257, 16), 10, 0);
-    expect_refused("10: the largest number", react_lengths(&s, 64, UINT32_MAX,
-                                                           16), 10, 0);
+    expect_refused("10: the largest number",
+                   react_lengths(&s, 64, UINT32_MAX, 16), 10, 0);
     expect_refused("11: room for one output of two",
                    react_lengths(&s, 64, 1, 8), 11, 0);
     expect_refused("11: whole records only", react_lengths(&s, 64, 1, 15), 11,
@@ -127,24 +128,27 @@ static void refusals_9_to_11(void)
 static void refusals_of_a_start(void)
 {
     struct session s, before;
-    open_session(&s, LINES({7, 1, 0}));
+    open_session(&s, LINES({OUTPUT, 1, 0}));
     before = s;
-    expect_refused("9: a start with 63 variables",
-                   independent_start(s.table, 8, s.marks, 1, s.vars, 63, s.out,
-                                     0), 9, 0);
-    expect_refused("11: a start without room",
-                   independent_start(s.table, 8, s.marks, 1, s.vars, 64, s.out,
-                                     7), 11, 0);
-    expect_refused("8: a start tests the marks before 9 and 11",
-                   independent_start(s.table, 8, s.marks, 0, s.vars, 63, s.out,
-                                     7), 8, 0);
+    expect_refused(
+        "9: a start with 63 variables",
+        independent_start(s.table, 8, s.marks, 1, s.variables, 63, s.out, 0),
+        9, 0);
+    expect_refused(
+        "11: a start without room",
+        independent_start(s.table, 8, s.marks, 1, s.variables, 64, s.out, 7),
+        11, 0);
+    expect_refused(
+        "8: a start tests the marks before 9 and 11",
+        independent_start(s.table, 8, s.marks, 0, s.variables, 63, s.out, 7),
+        8, 0);
     expect("a refused start changes nothing",
            memcmp(&before, &s, sizeof s) == 0);
-    s.vars[0] = 77;
-    s.vars[5] = 78;
+    s.variables[0] = 77;
+    s.variables[5] = 78;
     expect_answer("a start puts 0 in variable 0", start(&s), 3, 0, 1, 1, true);
     expect_output("the output of a start", &s, 0, 1, 0);
-    expect_number("a start leaves the other variables", s.vars[5], 78);
+    expect_number("a start leaves the other variables", s.variables[5], 78);
     expect_number("a start isn't counted in the totals",
                   (int64_t)s.totals.reactions, 0);
 }

@@ -56,8 +56,9 @@ static void runner_case_6(void)
     static const uint8_t events[16] = {9, 0, 0, 0, 255, 255, 255, 255,
                                        1, 0, 0, 0, 0,   0,   0,   128};
     struct session s;
-    open_session(&s, LINES({18, 0, 0}, {19, 0, 0}, {7, 2, 0}, {8, 1, 0}));
-    put_file("program.rec", s.table, s.table_len);
+    open_session(&s, LINES({OR, 0, 0}, {FIN, 0, 0}, {OUTPUT, 2, 0},
+                           {AWAIT_INPUT, 1, 0}));
+    put_file("program.rec", s.table, s.table_bytes);
     put_file("events.rec", event, 8);
     expect_printed("runner: case 6 with one event 1 of value 40",
                    "0 0 5 0 1 0 waiting\n1 40 4 0 1 1 finished\nout 2 40\n");
@@ -72,11 +73,11 @@ static void runner_case_6(void)
     expect_printed("runner: a missing program is empty", "refused 1 0\n");
     put_file("events.rec", event, 7);
     expect_printed("runner: the table before the event file", "refused 1 0\n");
-    put_file("program.rec", s.table, s.table_len);
+    put_file("program.rec", s.table, s.table_bytes);
     expect_printed("runner: the event file before the first line",
                    "refused 10 0\n");
     s.table[25] = 64;
-    put_file("program.rec", s.table, s.table_len);
+    put_file("program.rec", s.table, s.table_bytes);
     expect_printed("runner: refusal 3 with its place", "refused 3 3\n");
 }
 
@@ -84,10 +85,9 @@ static void runner_case_6(void)
 static size_t add_chain(struct line *lines, size_t at, struct line leaf,
                         size_t count)
 {
-    size_t i;
-    for (i = 0; i < count; i++) {
+    for (size_t i = 0; i < count; i++) {
         if (i + 1 < count)
-            lines[at++] = (struct line){13, 0, 0};
+            lines[at++] = (struct line){SEQUENCE, 0, 0};
         lines[at++] = leaf;
     }
     return at;
@@ -97,15 +97,15 @@ static size_t add_chain(struct line *lines, size_t at, struct line leaf,
  * X = 73 * 7 = 511, announced outputs 16 * 512 = 8,192. */
 static size_t put_8192_outputs(struct line *lines)
 {
-    size_t at = 0, i;
-    lines[at++] = (struct line){17, 0, 0};
-    lines[at++] = (struct line){16, 1, 0};
-    at = add_chain(lines, at, (struct line){7, 1, 0}, 16);
-    for (i = 0; i < 6; i++)
-        lines[at++] = (struct line){14, 0, 0};
-    lines[at++] = (struct line){13, 0, 0};
-    lines[at++] = (struct line){8, 1, 0};
-    return add_chain(lines, at, (struct line){10, 2, 0}, 73);
+    size_t at = 0;
+    lines[at++] = (struct line){AND, 0, 0};
+    lines[at++] = (struct line){EVERY_INTERNAL, 1, 0};
+    at = add_chain(lines, at, (struct line){OUTPUT, 1, 0}, 16);
+    for (size_t i = 0; i < 6; i++)
+        lines[at++] = (struct line){LOOP, 0, 0};
+    lines[at++] = (struct line){SEQUENCE, 0, 0};
+    lines[at++] = (struct line){AWAIT_INPUT, 1, 0};
+    return add_chain(lines, at, (struct line){EMIT, 2, 0}, 73);
 }
 
 static void runner_room(void)
@@ -116,15 +116,15 @@ static void runner_room(void)
     size_t count = put_8192_outputs(lines);
     open_session(&s, lines, count);
     expect_number("announced outputs 8,192", check(&s).outputs, 8192);
-    put_file("program.rec", s.table, s.table_len);
+    put_file("program.rec", s.table, s.table_bytes);
     put_file("events.rec", NULL, 0);
     expect_printed("runner: announced outputs of 8,192",
                    "0 0 11 0 1 0 waiting\n");
-    lines[count - 1] = (struct line){13, 0, 0};
-    lines[count] = (struct line){10, 2, 0};
-    lines[count + 1] = (struct line){7, 1, 0};
+    lines[count - 1] = (struct line){SEQUENCE, 0, 0};
+    lines[count] = (struct line){EMIT, 2, 0};
+    lines[count + 1] = (struct line){OUTPUT, 1, 0};
     open_session(&s, lines, count + 2);
-    put_file("program.rec", s.table, s.table_len);
+    put_file("program.rec", s.table, s.table_bytes);
     put_file("events.rec", bad, 8);
     expect_printed("runner: output room before the event file",
                    "refused 11 0\n");
@@ -132,14 +132,11 @@ static void runner_room(void)
 
 static void runner_lengths(void)
 {
-    uint8_t *events = calloc(70000, 1);
+    uint8_t *events = room_for(70000);
     struct session s;
-    size_t i;
-    if (events == NULL)
-        return;
-    open_session(&s, LINES({7, 3, 0}));
-    put_file("program.rec", s.table, s.table_len);
-    for (i = 0; i < 70000; i += 8)
+    open_session(&s, LINES({OUTPUT, 3, 0}));
+    put_file("program.rec", s.table, s.table_bytes);
+    for (size_t i = 0; i < 70000; i += 8)
         events[i] = 1;
     put_file("events.rec", events, 70000);
     expect_printed("runner: an event file too long", "refused 10 8192\n");

@@ -8,9 +8,8 @@ static bool stands_in(const struct program *p, size_t inner, size_t outer)
 
 static uint32_t loops_around(const struct program *p, size_t place)
 {
-    size_t outer;
     uint32_t loops = 0;
-    for (outer = 0; outer < place; outer++)
+    for (size_t outer = 0; outer < place; outer++)
         if (p->records[outer].kind == LOOP && stands_in(p, place, outer))
             loops++;
     return loops;
@@ -23,8 +22,7 @@ static bool is_every(uint32_t kind)
 
 static bool under_every(const struct program *p, size_t place)
 {
-    size_t outer;
-    for (outer = 0; outer < place; outer++)
+    for (size_t outer = 0; outer < place; outer++)
         if (is_every(p->records[outer].kind) && stands_in(p, place, outer))
             return true;
     return false;
@@ -32,8 +30,7 @@ static bool under_every(const struct program *p, size_t place)
 
 static bool under_fin(const struct program *p, size_t place)
 {
-    size_t outer;
-    for (outer = 0; outer < place; outer++)
+    for (size_t outer = 0; outer < place; outer++)
         if (p->records[outer].kind == FIN && stands_in(p, place, outer))
             return true;
     return false;
@@ -42,8 +39,7 @@ static bool under_fin(const struct program *p, size_t place)
 /* 4: "a break with no loop around it", place the break. */
 static struct refusal stage_4(const struct program *p)
 {
-    size_t place;
-    for (place = 0; place < p->count; place++)
+    for (size_t place = 0; place < p->count; place++)
         if (p->records[place].kind == BREAK && loops_around(p, place) == 0)
             return ind_refuse(4, place);
     return ind_accepted();
@@ -53,8 +49,7 @@ static struct refusal stage_4(const struct program *p)
  * record. */
 static struct refusal stage_5(const struct program *p)
 {
-    size_t place;
-    for (place = 0; place < p->count; place++) {
+    for (size_t place = 0; place < p->count; place++) {
         uint32_t kind = p->records[place].kind;
         if (kind <= OUTPUT || kind == IF || kind == SEQUENCE)
             continue;
@@ -67,8 +62,7 @@ static struct refusal stage_5(const struct program *p)
 /* 6: "a loop inside eight others", place that loop. */
 static struct refusal stage_6(const struct program *p)
 {
-    size_t place;
-    for (place = 0; place < p->count; place++)
+    for (size_t place = 0; place < p->count; place++)
         if (p->records[place].kind == LOOP &&
             loops_around(p, place) >= MOST_LOOPS)
             return ind_refuse(6, place);
@@ -78,10 +72,9 @@ static struct refusal stage_6(const struct program *p)
 /* Is this loop the nearest one around the break? */
 static bool own_break(const struct program *p, size_t at_break, size_t loop)
 {
-    size_t nearer;
     if (!stands_in(p, at_break, loop))
         return false;
-    for (nearer = loop + 1; nearer < at_break; nearer++)
+    for (size_t nearer = loop + 1; nearer < at_break; nearer++)
         if (p->records[nearer].kind == LOOP && stands_in(p, at_break, nearer))
             return false;
     return true;
@@ -90,8 +83,8 @@ static bool own_break(const struct program *p, size_t at_break, size_t loop)
 /* "a loop where a break of its own (one with no nearer loop) stands in it" */
 static bool has_own_break(const struct program *p, size_t loop)
 {
-    size_t place;
-    for (place = loop + 1; place < loop + p->records[loop].span; place++)
+    for (size_t place = loop + 1; place < loop + p->records[loop].span;
+         place++)
         if (p->records[place].kind == BREAK && own_break(p, place, loop))
             return true;
     return false;
@@ -127,8 +120,7 @@ static bool may_end_at_once(const struct program *p, size_t place)
 /* 7: "a loop whose body may end at once", place that loop. */
 static struct refusal stage_7(const struct program *p)
 {
-    size_t place;
-    for (place = 0; place < p->count; place++)
+    for (size_t place = 0; place < p->count; place++)
         if (p->records[place].kind == LOOP && may_end_at_once(p, place + 1))
             return ind_refuse(7, place);
     return ind_accepted();
@@ -136,10 +128,10 @@ static struct refusal stage_7(const struct program *p)
 
 /* "Stages run in this order over the whole table. The first stage that fails
  * decides, with the lowest place that fails it." */
-struct refusal ind_stages_1_to_7(const uint8_t *table, size_t table_len,
+struct refusal ind_stages_1_to_7(const uint8_t *table, size_t table_bytes,
                                  struct program *p)
 {
-    struct refusal r = ind_stages_1_to_3(table, table_len, p);
+    struct refusal r = ind_stages_1_to_3(table, table_bytes, p);
     if (r.number == 0)
         r = stage_4(p);
     if (r.number == 0)
@@ -154,8 +146,7 @@ struct refusal ind_stages_1_to_7(const uint8_t *table, size_t table_len,
 static uint64_t deepest_loop_nesting(const struct program *p)
 {
     uint64_t deepest = 0;
-    size_t place;
-    for (place = 0; place < p->count; place++)
+    for (size_t place = 0; place < p->count; place++)
         if (p->records[place].kind == LOOP &&
             loops_around(p, place) + 1 > deepest)
             deepest = loops_around(p, place) + 1;
@@ -170,8 +161,7 @@ struct independent_checked ind_announced(const struct program *p)
     struct independent_checked a = {0, 0, 0, 0, 0, 0};
     uint64_t n = p->count, d = deepest_loop_nesting(p);
     uint64_t e = 0, outside = 0, inside = 0, x;
-    size_t place;
-    for (place = 0; place < p->count; place++) {
+    for (size_t place = 0; place < p->count; place++) {
         if (p->records[place].kind == EMIT)
             e++;
         if (p->records[place].kind == OUTPUT) {
@@ -191,11 +181,11 @@ struct independent_checked ind_announced(const struct program *p)
 
 /* "The check tests 1 to 7 and returns the announced numbers." */
 struct independent_checked independent_check(const uint8_t *table,
-                                             size_t table_len)
+                                             size_t table_bytes)
 {
     struct program p;
     struct independent_checked refused = {0, 0, 0, 0, 0, 0};
-    struct refusal r = ind_stages_1_to_7(table, table_len, &p);
+    struct refusal r = ind_stages_1_to_7(table, table_bytes, &p);
     ind_met_refusal(r.number);
     if (r.number == 0)
         return ind_announced(&p);

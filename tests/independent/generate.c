@@ -158,10 +158,9 @@ static void add_meeting(struct growing *g, size_t most, struct around a)
 /* Adds a construct of at most so many records. */
 static void add_construct(struct growing *g, size_t most, struct around a)
 {
-    static const uint32_t kinds[] = {SEQUENCE, SEQUENCE, SEQUENCE, IF,
-                                     AND,      AND,      AND,      OR,
-                                     OR,       LOOP,     LOOP,     EVERY_INPUT,
-                                     FIN,      EVERY_INTERNAL};
+    static const uint32_t kinds[] = {
+        SEQUENCE, SEQUENCE, SEQUENCE, IF,   AND,         AND, AND,
+        OR,       OR,       LOOP,     LOOP, EVERY_INPUT, FIN, EVERY_INTERNAL};
     uint32_t kind = kinds[draw(g->chance, sizeof kinds / sizeof *kinds)];
     if (a.plain && kind != SEQUENCE)
         kind = IF;

@@ -1,18 +1,14 @@
-/*
- * An independent program for comparison: it rewrites a tree one rule at a
- * time, as the scope paper writes the rules.  It is slow and plain on purpose.
- *
- * All lengths count bytes, except that of the variables, which counts
- * variables.  Nothing is read or written outside the given lengths.
- */
+/* An independent program for comparison: it rewrites a tree one rule at a
+ * time, as document 01 writes the rules. It is slow and plain on purpose.
+ * Nothing is read or written outside the given lengths. */
 #ifndef INDEPENDENT_H
 #define INDEPENDENT_H
 
 #include <stddef.h>
 #include <stdint.h>
 
-/* Not a number of the paper: no rule applied, the rules came to no end, or
- * more outputs came than announced.  No input is known that gives it. */
+/* Not a number of document 01: no rule applied, the rules came to no end, or
+ * more outputs came than announced. No input is known that gives it. */
 #define INDEPENDENT_BROKEN 99u
 
 /* refused 0: accepted, with the announced numbers; else the refusal's number
@@ -40,32 +36,37 @@ struct independent_remaining {
 };
 
 struct independent_checked independent_check(const uint8_t *table,
-                                             size_t table_len);
+                                             size_t table_bytes);
 
-struct independent_answer independent_start(
-    const uint8_t *table, size_t table_len, uint8_t *marks, size_t marks_len,
-    int32_t *vars, size_t vars_len, uint8_t *out, size_t out_len);
+struct independent_answer independent_start(const uint8_t *table,
+                                            size_t table_bytes, uint8_t *marks,
+                                            size_t marks_bytes,
+                                            int32_t *variables,
+                                            size_t variables_count,
+                                            uint8_t *out, size_t out_bytes);
 
 struct independent_answer independent_react(
-    const uint8_t *table, size_t table_len, uint8_t *marks, size_t marks_len,
-    int32_t *vars, size_t vars_len, uint32_t event, int32_t value,
-    uint8_t *out, size_t out_len, struct independent_totals *totals);
+    const uint8_t *table, size_t table_bytes, uint8_t *marks,
+    size_t marks_bytes, int32_t *variables, size_t variables_count,
+    uint32_t event, int32_t value, uint8_t *out, size_t out_bytes,
+    struct independent_totals *totals);
 
 struct independent_answer independent_run_list(
-    const uint8_t *table, size_t table_len, uint8_t *marks, size_t marks_len,
-    int32_t *vars, size_t vars_len, const uint8_t *events, size_t events_len,
-    uint8_t *out, size_t out_len, struct independent_totals *totals);
+    const uint8_t *table, size_t table_bytes, uint8_t *marks,
+    size_t marks_bytes, int32_t *variables, size_t variables_count,
+    const uint8_t *events, size_t events_bytes, uint8_t *out, size_t out_bytes,
+    struct independent_totals *totals);
 
 struct independent_query independent_query(const uint8_t *table,
-                                           size_t table_len,
+                                           size_t table_bytes,
                                            const uint8_t *marks,
-                                           size_t marks_len);
+                                           size_t marks_bytes);
 
 struct independent_remaining independent_remaining(
-    const uint8_t *table, size_t table_len, const uint8_t *marks,
-    size_t marks_len, uint8_t *out, size_t out_len);
+    const uint8_t *table, size_t table_bytes, const uint8_t *marks,
+    size_t marks_bytes, uint8_t *out, size_t out_bytes);
 
-/* The rules of a reaction.  Those called "within" are no steps of their own:
+/* The rules of a reaction. Those called "within" are no steps of their own:
  * they say where in a construct the one step is taken. */
 enum independent_rule {
     RULE_NONE, /* no rule applies */
@@ -110,7 +111,7 @@ enum independent_rule {
     INDEPENDENT_RULES
 };
 
-#define INDEPENDENT_KINDS 24   /* 0 to 19, then @loop, @and, @or, @canrun */
+#define INDEPENDENT_KINDS 24    /* 0 to 19, then @loop, @and, @or, @canrun */
 #define INDEPENDENT_REFUSALS 13 /* entry 0 counts the accepted calls */
 
 /* How often each refusal was answered, each rule applied, each kind built as

@@ -85,7 +85,7 @@ struct description {
     struct node *tree;
     uint32_t level;
     struct event pending;
-    int32_t *vars;
+    int32_t *variables;
     struct outputs outputs;
     uint32_t highest;
     uint64_t emitted;
@@ -99,22 +99,22 @@ int32_t ind_read_number(const uint8_t *bytes);
 void ind_write_number(uint8_t *bytes, int32_t number);
 unsigned ind_children(uint32_t kind);
 size_t ind_second_child(const struct program *p, size_t place);
-struct refusal ind_stages_1_to_3(const uint8_t *table, size_t table_len,
+struct refusal ind_stages_1_to_3(const uint8_t *table, size_t table_bytes,
                                  struct program *p);
 
 /* check.c */
-struct refusal ind_stages_1_to_7(const uint8_t *table, size_t table_len,
+struct refusal ind_stages_1_to_7(const uint8_t *table, size_t table_bytes,
                                  struct program *p);
 struct independent_checked ind_announced(const struct program *p);
 
 /* marks.c */
-struct refusal ind_stage_8_length(const struct program *p, size_t marks_len);
+struct refusal ind_stage_8_length(const struct program *p, size_t marks_bytes);
 struct refusal ind_stage_8(const struct program *p, const uint8_t *marks,
-                           size_t marks_len);
+                           size_t marks_bytes);
 struct node *ind_tree_at_rest(const struct program *p, const uint8_t *marks);
 void ind_write_marks(const struct program *p, const struct node *tree,
                      uint8_t *marks);
-bool ind_all_zero(const uint8_t *marks, size_t marks_len);
+bool ind_all_zero(const uint8_t *marks, size_t marks_bytes);
 
 /* tree.c */
 struct node *ind_node(uint32_t kind, uint32_t place, struct node *left,
@@ -135,16 +135,16 @@ bool ind_ended(const struct description *d);
 enum independent_rule ind_step(struct description *d);
 
 /* list.c */
-struct refusal ind_list_stage_10(const uint8_t *events, size_t events_len);
+struct refusal ind_list_stage_10(const uint8_t *events, size_t events_bytes);
 
 /* calls.c */
 struct refusal ind_reaction_stages_1_to_9(
-    const uint8_t *table, size_t table_len, const uint8_t *marks,
-    size_t marks_len, size_t vars_len, struct program *p);
+    const uint8_t *table, size_t table_bytes, const uint8_t *marks,
+    size_t marks_bytes, size_t variables_count, struct program *p);
 struct independent_answer ind_refused_answer(struct refusal r);
 struct independent_answer ind_run(const struct program *p, struct node *tree,
                                   struct event event, uint8_t *marks,
-                                  int32_t *vars, struct outputs outputs);
+                                  int32_t *variables, struct outputs outputs);
 void ind_add_to_totals(struct independent_totals *totals, uint64_t steps);
 
 /* coverage.c */

@@ -11,15 +11,15 @@ static bool bad_list_record(const uint8_t *bytes)
  * no multiple of 8; a list record with bytes 1-3 not zero", place "8192 for a
  * list too long; else the first bad list record, a broken last one
  * included". */
-struct refusal ind_list_stage_10(const uint8_t *events, size_t events_len)
+struct refusal ind_list_stage_10(const uint8_t *events, size_t events_bytes)
 {
-    size_t whole = events_len / RECORD_BYTES, i;
-    if (events_len > MOST_LIST_BYTES)
+    size_t whole = events_bytes / RECORD_BYTES;
+    if (events_bytes > MOST_LIST_BYTES)
         return ind_refuse(10, LIST_TOO_LONG_PLACE);
-    for (i = 0; i < whole; i++)
+    for (size_t i = 0; i < whole; i++)
         if (bad_list_record(events + i * RECORD_BYTES))
             return ind_refuse(10, i);
-    if (events_len % RECORD_BYTES != 0)
+    if (events_bytes % RECORD_BYTES != 0)
         return ind_refuse(10, whole);
     return ind_accepted();
 }
@@ -28,7 +28,7 @@ struct refusal ind_list_stage_10(const uint8_t *events, size_t events_len)
 struct list {
     const struct program *p;
     uint8_t *marks;
-    int32_t *vars;
+    int32_t *variables;
     struct outputs outputs; /* what is written so far lies before it */
     struct independent_totals *totals;
 };
@@ -39,9 +39,9 @@ static struct independent_answer take_event(struct list *l,
 {
     struct event event = {INPUT_EVENT, 0};
     event.number = bytes[0];
-    l->vars[0] = ind_read_number(bytes + 4);
+    l->variables[0] = ind_read_number(bytes + 4);
     return ind_run(l->p, ind_tree_at_rest(l->p, l->marks), event, l->marks,
-                   l->vars, l->outputs);
+                   l->variables, l->outputs);
 }
 
 static void use_room(struct outputs *o, uint64_t written)
@@ -71,8 +71,7 @@ static struct independent_answer take_events(struct list *l,
 {
     struct independent_answer sum = {0, 0, 0, 0, 0, 0, 0}, one;
     uint32_t announced = ind_announced(l->p).outputs;
-    size_t i;
-    for (i = 0; i < count; i++) {
+    for (size_t i = 0; i < count; i++) {
         if (l->outputs.room < announced) {
             sum.refused = 12;
             sum.place = (uint32_t)i;
@@ -90,30 +89,31 @@ static struct independent_answer take_events(struct list *l,
     return sum;
 }
 
-/* "A list is tested whole before its first event; it has no 11.  An empty list
+/* "A list is tested whole before its first event; it has no 11. An empty list
  * succeeds." */
 struct independent_answer independent_run_list(
-    const uint8_t *table, size_t table_len, uint8_t *marks, size_t marks_len,
-    int32_t *vars, size_t vars_len, const uint8_t *events, size_t events_len,
-    uint8_t *out, size_t out_len, struct independent_totals *totals)
+    const uint8_t *table, size_t table_bytes, uint8_t *marks,
+    size_t marks_bytes, int32_t *variables, size_t variables_count,
+    const uint8_t *events, size_t events_bytes, uint8_t *out, size_t out_bytes,
+    struct independent_totals *totals)
 {
     struct program p;
     struct list l;
     struct independent_answer a;
-    struct refusal r = ind_reaction_stages_1_to_9(table, table_len, marks,
-                                                  marks_len, vars_len, &p);
+    struct refusal r = ind_reaction_stages_1_to_9(
+        table, table_bytes, marks, marks_bytes, variables_count, &p);
     if (r.number == 0)
-        r = ind_list_stage_10(events, events_len);
+        r = ind_list_stage_10(events, events_bytes);
     if (r.number != 0)
         return ind_refused_answer(r);
     l.p = &p;
     l.marks = marks;
-    l.vars = vars;
+    l.variables = variables;
     l.outputs.bytes = out;
-    l.outputs.room = out_len / RECORD_BYTES;
+    l.outputs.room = out_bytes / RECORD_BYTES;
     l.outputs.written = 0;
     l.totals = totals;
-    a = take_events(&l, events, events_len / RECORD_BYTES);
+    a = take_events(&l, events, events_bytes / RECORD_BYTES);
     if (a.refused != INDEPENDENT_BROKEN)
         ind_met_refusal(a.refused);
     return a;

@@ -12,8 +12,7 @@ static bool may_carry_a_mark(uint32_t kind)
 /* Does the construct at this place have any mark? */
 static bool marked(const struct program *p, const uint8_t *marks, size_t place)
 {
-    size_t below;
-    for (below = place; below < place + p->records[place].span; below++)
+    for (size_t below = place; below < place + p->records[place].span; below++)
         if (marks[below] != 0)
             return true;
     return false;
@@ -49,9 +48,9 @@ static bool construct_fits(const struct program *p, const uint8_t *marks,
 }
 
 /* 8: "waiting marks: not one byte for each record", place 0. */
-struct refusal ind_stage_8_length(const struct program *p, size_t marks_len)
+struct refusal ind_stage_8_length(const struct program *p, size_t marks_bytes)
 {
-    if (marks_len != p->count)
+    if (marks_bytes != p->count)
         return ind_refuse(8, 0);
     return ind_accepted();
 }
@@ -59,17 +58,16 @@ struct refusal ind_stage_8_length(const struct program *p, size_t marks_len)
 /* 8: "else a byte over 1 or a 1 on a kind other than 8, 9, 15, 16, 19; else
  * not fitting", place "lowest such byte; lowest construct that fails". */
 struct refusal ind_stage_8(const struct program *p, const uint8_t *marks,
-                           size_t marks_len)
+                           size_t marks_bytes)
 {
-    size_t place;
-    struct refusal r = ind_stage_8_length(p, marks_len);
+    struct refusal r = ind_stage_8_length(p, marks_bytes);
     if (r.number != 0)
         return r;
-    for (place = 0; place < p->count; place++)
+    for (size_t place = 0; place < p->count; place++)
         if (marks[place] > 1 ||
             (marks[place] == 1 && !may_carry_a_mark(p->records[place].kind)))
             return ind_refuse(8, place);
-    for (place = 0; place < p->count; place++)
+    for (size_t place = 0; place < p->count; place++)
         if (!construct_fits(p, marks, place))
             return ind_refuse(8, place);
     return ind_accepted();
@@ -165,10 +163,9 @@ void ind_write_marks(const struct program *p, const struct node *tree,
 }
 
 /* "All zero means finished." */
-bool ind_all_zero(const uint8_t *marks, size_t marks_len)
+bool ind_all_zero(const uint8_t *marks, size_t marks_bytes)
 {
-    size_t place;
-    for (place = 0; place < marks_len; place++)
+    for (size_t place = 0; place < marks_bytes; place++)
         if (marks[place] != 0)
             return false;
     return true;

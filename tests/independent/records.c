@@ -33,8 +33,7 @@ int32_t ind_read_number(const uint8_t *bytes)
 void ind_write_number(uint8_t *bytes, int32_t number)
 {
     uint32_t bits = (uint32_t)number;
-    int i;
-    for (i = 0; i < 4; i++)
+    for (int i = 0; i < 4; i++)
         bytes[i] = (uint8_t)(bits >> (8 * i));
 }
 
@@ -66,20 +65,19 @@ size_t ind_second_child(const struct program *p, size_t place)
 }
 
 /* 1: "length 0, not a multiple of 8, or over 2,048 bytes", place 0. */
-static struct refusal stage_1(size_t table_len)
+static struct refusal stage_1(size_t table_bytes)
 {
-    if (table_len == 0 || table_len % RECORD_BYTES != 0 ||
-        table_len > (size_t)MOST_RECORDS * RECORD_BYTES)
+    if (table_bytes == 0 || table_bytes % RECORD_BYTES != 0 ||
+        table_bytes > (size_t)MOST_RECORDS * RECORD_BYTES)
         return ind_refuse(1, 0);
     return ind_accepted();
 }
 
 /* "Byte 0 kind, byte 1 name, bytes 2-3 span, bytes 4-7 number (signed)." */
-static void decode(const uint8_t *table, size_t table_len, struct program *p)
+static void decode(const uint8_t *table, size_t table_bytes, struct program *p)
 {
-    size_t place;
-    p->count = table_len / RECORD_BYTES;
-    for (place = 0; place < p->count; place++) {
+    p->count = table_bytes / RECORD_BYTES;
+    for (size_t place = 0; place < p->count; place++) {
         const uint8_t *bytes = table + place * RECORD_BYTES;
         struct record *r = &p->records[place];
         r->kind = bytes[0];
@@ -113,8 +111,7 @@ static bool span_as_above(const struct program *p, size_t place)
  * spanning all", place the record. */
 static struct refusal stage_2(const struct program *p)
 {
-    size_t place;
-    for (place = 0; place < p->count; place++) {
+    for (size_t place = 0; place < p->count; place++) {
         const struct record *r = &p->records[place];
         if (r->kind > LAST_KIND || !span_as_above(p, place) ||
             (place == 0 && r->span != p->count))
@@ -130,33 +127,32 @@ struct bounds {
 
 /* The columns "name" and "number" of the kinds table. */
 static const struct bounds kinds_table[LAST_KIND + 1] = {
-    {0, 0, 0, 0},                           /* 0 nothing */
-    {1, LAST_NAME, INT32_MIN, INT32_MAX},   /* 1 v := number */
-    {1, LAST_NAME, INT32_MIN, INT32_MAX},   /* 2 v := v + number */
-    {1, LAST_NAME, 0, LAST_NAME},           /* 3 v := w */
-    {1, LAST_NAME, 0, LAST_NAME},           /* 4 v := v - w */
-    {1, LAST_NAME, 0, LAST_NAME},           /* 5 v := 1 if v < w, else 0 */
-    {1, LAST_NAME, 0, LAST_NAME},           /* 6 v := v / w */
-    {1, LAST_NAME, 0, LAST_NAME},           /* 7 output o of w */
-    {1, LAST_NAME, 0, 0},                   /* 8 await input */
-    {1, LAST_NAME, 0, 0},                   /* 9 await internal */
-    {1, LAST_NAME, 0, 0},                   /* 10 emit internal */
-    {0, 0, 0, 0},                           /* 11 break */
-    {0, LAST_NAME, 0, 0},                   /* 12 if v */
-    {0, 0, 0, 0},                           /* 13 sequence */
-    {0, 0, 0, 0},                           /* 14 loop */
-    {1, LAST_NAME, 0, 0},                   /* 15 every input */
-    {1, LAST_NAME, 0, 0},                   /* 16 every internal */
-    {0, 0, 0, 0},                           /* 17 and */
-    {0, 0, 0, 0},                           /* 18 or */
-    {0, 0, 0, 0},                           /* 19 fin */
+    {0, 0, 0, 0},                         /* 0 nothing */
+    {1, LAST_NAME, INT32_MIN, INT32_MAX}, /* 1 v := number */
+    {1, LAST_NAME, INT32_MIN, INT32_MAX}, /* 2 v := v + number */
+    {1, LAST_NAME, 0, LAST_NAME},         /* 3 v := w */
+    {1, LAST_NAME, 0, LAST_NAME},         /* 4 v := v - w */
+    {1, LAST_NAME, 0, LAST_NAME},         /* 5 v := 1 if v < w, else 0 */
+    {1, LAST_NAME, 0, LAST_NAME},         /* 6 v := v / w */
+    {1, LAST_NAME, 0, LAST_NAME},         /* 7 output o of w */
+    {1, LAST_NAME, 0, 0},                 /* 8 await input */
+    {1, LAST_NAME, 0, 0},                 /* 9 await internal */
+    {1, LAST_NAME, 0, 0},                 /* 10 emit internal */
+    {0, 0, 0, 0},                         /* 11 break */
+    {0, LAST_NAME, 0, 0},                 /* 12 if v */
+    {0, 0, 0, 0},                         /* 13 sequence */
+    {0, 0, 0, 0},                         /* 14 loop */
+    {1, LAST_NAME, 0, 0},                 /* 15 every input */
+    {1, LAST_NAME, 0, 0},                 /* 16 every internal */
+    {0, 0, 0, 0},                         /* 17 and */
+    {0, 0, 0, 0},                         /* 18 or */
+    {0, 0, 0, 0},                         /* 19 fin */
 };
 
 /* 3: "name or number outside the kinds table", place the record. */
 static struct refusal stage_3(const struct program *p)
 {
-    size_t place;
-    for (place = 0; place < p->count; place++) {
+    for (size_t place = 0; place < p->count; place++) {
         const struct record *r = &p->records[place];
         const struct bounds *b = &kinds_table[r->kind];
         if (r->name < b->name_from || r->name > b->name_to ||
@@ -166,13 +162,13 @@ static struct refusal stage_3(const struct program *p)
     return ind_accepted();
 }
 
-struct refusal ind_stages_1_to_3(const uint8_t *table, size_t table_len,
+struct refusal ind_stages_1_to_3(const uint8_t *table, size_t table_bytes,
                                  struct program *p)
 {
-    struct refusal r = stage_1(table_len);
+    struct refusal r = stage_1(table_bytes);
     if (r.number != 0)
         return r;
-    decode(table, table_len, p);
+    decode(table, table_bytes, p);
     r = stage_2(p);
     if (r.number != 0)
         return r;

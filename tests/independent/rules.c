@@ -26,23 +26,23 @@ static int32_t divide(int32_t v, int32_t w)
     return v / w;
 }
 
-/* The new value of v for kinds 1 to 6.  "Sums and differences wrap." */
-static int32_t new_value(const struct node *n, const int32_t *vars)
+/* The new value of v for kinds 1 to 6. "Sums and differences wrap." */
+static int32_t new_value(const struct node *n, const int32_t *variables)
 {
-    int32_t v = vars[n->name];
+    int32_t v = variables[n->name];
     switch (n->kind) {
     case SET:
         return n->number;
     case ADD:
         return ind_signed((uint32_t)v + (uint32_t)n->number);
     case COPY:
-        return vars[n->number];
+        return variables[n->number];
     case SUBTRACT:
-        return ind_signed((uint32_t)v - (uint32_t)vars[n->number]);
+        return ind_signed((uint32_t)v - (uint32_t)variables[n->number]);
     case LESS:
-        return v < vars[n->number] ? 1 : 0;
+        return v < variables[n->number] ? 1 : 0;
     default:
-        return divide(v, vars[n->number]);
+        return divide(v, variables[n->number]);
     }
 }
 
@@ -69,9 +69,9 @@ static enum independent_rule act(struct description *d, struct node *n)
         RULE_SUBTRACT, RULE_LESS, RULE_DIVIDE, RULE_OUTPUT};
     enum independent_rule rule = rules[n->kind];
     if (n->kind == OUTPUT)
-        append_output(&d->outputs, n->name, d->vars[n->number]);
+        append_output(&d->outputs, n->name, d->variables[n->number]);
     else
-        d->vars[n->name] = new_value(n, d->vars);
+        d->variables[n->name] = new_value(n, d->variables);
     become_nop(n);
     return rule;
 }
@@ -118,7 +118,7 @@ static void become_right(struct node **at)
 /* "if becomes a branch": "if v is not 0, left, else right". */
 static enum independent_rule branch(struct description *d, struct node **at)
 {
-    if (d->vars[(*at)->name] != 0) {
+    if (d->variables[(*at)->name] != 0) {
         become_left(at);
         return RULE_IF_LEFT;
     }
@@ -321,8 +321,8 @@ enum independent_rule ind_step(struct description *d)
     enum independent_rule rule;
     if (d->pending.pending != NO_EVENT) {
         rule = push(d);
-    } else if (d->level > 0 && (d->tree->kind == NOTHING ||
-                                ind_blocked(d->tree, d->level))) {
+    } else if (d->level > 0 &&
+               (d->tree->kind == NOTHING || ind_blocked(d->tree, d->level))) {
         d->level--;
         rule = RULE_POP;
     } else {

@@ -32,8 +32,7 @@ bool ind_blocked(const struct node *n, uint32_t level)
 static bool wakes(struct event event, const struct node *n)
 {
     bool input = n->kind == AWAIT_INPUT || n->kind == EVERY_INPUT;
-    return n->name == event.number &&
-           input == (event.pending == INPUT_EVENT);
+    return n->name == event.number && input == (event.pending == INPUT_EVENT);
 }
 
 static struct node *awake_await(struct node *n, struct event event)

@@ -10,8 +10,8 @@ struct node *ind_node(uint32_t kind, uint32_t place, struct node *left,
 {
     struct node *n = malloc(sizeof *n);
     if (n == NULL) {
-        fputs("out of memory\n", stderr);
-        exit(EXIT_FAILURE);
+        fputs("independent: out of memory\n", stderr);
+        exit(2);
     }
     n->kind = kind;
     n->place = place;

@@ -1,4 +1,4 @@
-/* The faults, one for each number.  Each line "FAULT number: check: what" says
+/* The faults, one for each number. Each line "FAULT number: check: what" says
  * which check of the comparison has to see it; prove_checks reads them. */
 #ifndef FAULTS_H
 #define FAULTS_H
@@ -8,11 +8,11 @@
 #endif
 
 /* A fault that is chosen does its work, any other does nothing. */
-#define WHEN(number, what)        \
-    do {                          \
-        if (FAULT == (number)) {  \
-            what;                 \
-        }                         \
+#define WHEN(number, what)                                                    \
+    do {                                                                      \
+        if (FAULT == (number)) {                                              \
+            what;                                                             \
+        }                                                                     \
     } while (0)
 #define DONE ((a).refused == 0)
 #define WRITABLE(slice) ((uint8_t *)(uintptr_t)(slice))
@@ -43,21 +43,21 @@
  * FAULT 59: the guard before the table: the byte before the table is changed
  * FAULT 64: a call comes back: a byte behind the table is read
  */
-#define BREAK_CHECK(a)                                                  \
-    do {                                                                \
-        WHEN(6, if ((a).refused == 3)(a).place++);                      \
-        WHEN(7, if ((a).steps > 900)(a).steps++);                       \
-        WHEN(8, if ((a).outputs > 40)(a).outputs--);                    \
-        WHEN(9, if ((a).emitted > 9)(a).emitted++);                     \
-        WHEN(10, if ((a).highest > 9)(a).highest--);                    \
-        WHEN(11, if (table != NULL) WRITABLE(table)[table_bytes] = 0);  \
-        WHEN(12, if (table_bytes > 80) WRITABLE(table)[9] ^= 1);        \
-        WHEN(13, if (table_bytes == 0)(a).place =                       \
-                     *(const volatile uint8_t *)table - *table);        \
-        WHEN(14, if ((a).refused == 7)(a).steps = 1);                   \
-        WHEN(59, if (table != NULL) WRITABLE(table)[-1] = 0);           \
-        WHEN(64, if (((const volatile uint8_t *)table)[table_bytes] == 7) \
-                     (a).place = 0);                                    \
+#define BREAK_CHECK(a)                                                        \
+    do {                                                                      \
+        WHEN(6, if ((a).refused == 3)(a).place++);                            \
+        WHEN(7, if ((a).steps > 900)(a).steps++);                             \
+        WHEN(8, if ((a).outputs > 40)(a).outputs--);                          \
+        WHEN(9, if ((a).emitted > 9)(a).emitted++);                           \
+        WHEN(10, if ((a).highest > 9)(a).highest--);                          \
+        WHEN(11, if (table != NULL) WRITABLE(table)[table_bytes] = 0);        \
+        WHEN(12, if (table_bytes > 80) WRITABLE(table)[9] ^= 1);              \
+        WHEN(13, if (table_bytes == 0)(a).place =                             \
+                     *(const volatile uint8_t *)table - *table);              \
+        WHEN(14, if ((a).refused == 7)(a).steps = 1);                         \
+        WHEN(59, if (table != NULL) WRITABLE(table)[-1] = 0);                 \
+        WHEN(64, if (((const volatile uint8_t *)table)[table_bytes] == 7)(a)  \
+                     .place = 0);                                             \
     } while (0)
 
 /* Behind the start.
@@ -67,13 +67,13 @@
  * FAULT 18: the answer's finished: finished is off after an output
  * FAULT 19: the guard before the variables: the bytes before are changed
  */
-#define BREAK_START(a)                                                     \
-    do {                                                                   \
-        WHEN(15, if (DONE) variables[0] = 1);                              \
-        WHEN(16, if (DONE && marks_bytes > 9) marks[marks_bytes - 1] = 1); \
-        WHEN(17, if ((a).refused == 11) memset(marks, 0, marks_bytes));    \
-        WHEN(18, if (DONE && (a).outputs > 0)(a).finished ^= 1);           \
-        WHEN(19, if (DONE) variables[-1] = 0);                             \
+#define BREAK_START(a)                                                        \
+    do {                                                                      \
+        WHEN(15, if (DONE) variables[0] = 1);                                 \
+        WHEN(16, if (DONE && marks_bytes > 9) marks[marks_bytes - 1] = 1);    \
+        WHEN(17, if ((a).refused == 11) memset(marks, 0, marks_bytes));       \
+        WHEN(18, if (DONE && (a).outputs > 0)(a).finished ^= 1);              \
+        WHEN(19, if (DONE) variables[-1] = 0);                                \
     } while (0)
 
 /* Behind a reaction.
@@ -99,30 +99,31 @@
  * FAULT 39: a call comes to its end: a high level never ends
  * FAULT 40: the answer's place: the place of refusal 8 is off
  */
-#define BREAK_REACT(a)                                                       \
-    do {                                                                     \
-        WHEN(20, if ((a).emitted > 0)(a).steps++);                           \
-        WHEN(21, if ((a).emitted > 3)(a).emitted--);                         \
-        WHEN(22, if ((a).highest > 3)(a).highest--);                         \
-        WHEN(23, if ((a).emitted > 1) marks[marks_bytes - 1] ^= 1);          \
-        WHEN(24, if ((a).outputs > 1) variables[63]++);                      \
-        WHEN(25, if ((a).outputs > 1) out[14] ^= 1);                         \
-        WHEN(26, if ((a).outputs > 2) out[18] = 1);                          \
-        WHEN(27, if (DONE && (a).outputs * 8 < out_bytes)                    \
-                     out[out_bytes - 1] ^= 1);                               \
-        WHEN(28, if ((a).outputs > 0) out[out_bytes] = 0);                   \
-        WHEN(29, if ((a).emitted > 0) marks[-1] = 0);                        \
-        WHEN(30, if (DONE) variables[64] = 0);                               \
-        WHEN(31, if (DONE) totals[1].reactions = 0);                         \
-        WHEN(32, if ((a).emitted > 0) totals->reactions++);                  \
+#define BREAK_REACT(a)                                                        \
+    do {                                                                      \
+        WHEN(20, if ((a).emitted > 0)(a).steps++);                            \
+        WHEN(21, if ((a).emitted > 3)(a).emitted--);                          \
+        WHEN(22, if ((a).highest > 3)(a).highest--);                          \
+        WHEN(23, if ((a).emitted > 1) marks[marks_bytes - 1] ^= 1);           \
+        WHEN(24, if ((a).outputs > 1) variables[63]++);                       \
+        WHEN(25, if ((a).outputs > 1) out[14] ^= 1);                          \
+        WHEN(26, if ((a).outputs > 2) out[18] = 1);                           \
+        WHEN(27, if (DONE && (a).outputs * 8 < out_bytes)                     \
+                     out[out_bytes - 1] ^= 1);                                \
+        WHEN(28, if ((a).outputs > 0) out[out_bytes] = 0);                    \
+        WHEN(29, if ((a).emitted > 0) marks[-1] = 0);                         \
+        WHEN(30, if (DONE) variables[64] = 0);                                \
+        WHEN(31, if (DONE) totals[1].reactions = 0);                          \
+        WHEN(32, if ((a).emitted > 0) totals->reactions++);                   \
         WHEN(33, if (DONE && totals->steps == UINT64_MAX) totals->steps = 0); \
-        WHEN(34, if ((a).refused == 9 && event - 1 > 62)(a).refused = 10);   \
-        WHEN(35, if ((a).refused == 10 && out_bytes == 0)(a).refused = 11);  \
-        WHEN(36, if ((a).refused == 10) variables[0] = value ^ 1);           \
-        WHEN(37, if ((a).refused == 11) totals->reactions ^= 1);             \
-        WHEN(38, if ((a).refused == 9)(a).finished = 1);                     \
-        WHEN(39, while ((a).highest > 2) { *(volatile uint8_t *)marks; });   \
-        WHEN(40, if ((a).refused == 8 && (a).place > 0)(a).place--);         \
+        WHEN(34, if ((a).refused == 9 && event - 1 > 62)(a).refused = 10);    \
+        WHEN(35, if ((a).refused == 10 && out_bytes == 0)(a).refused = 11);   \
+        WHEN(36, if ((a).refused == 10) variables[0] = value ^ 1);            \
+        WHEN(37, if ((a).refused == 11) totals->reactions ^= 1);              \
+        WHEN(38, if ((a).refused == 9)(a).finished = 1);                      \
+        WHEN(                                                                 \
+            39, while ((a).highest > 2) { *(volatile uint8_t *)marks; });     \
+        WHEN(40, if ((a).refused == 8 && (a).place > 0)(a).place--);          \
     } while (0)
 
 /* Behind a list.
@@ -141,23 +142,27 @@
  * FAULT 63: a call comes back: a byte behind the list is read
  * (62 is for edits.txt)
  */
-#define BREAK_LIST(a)                                                        \
-    do {                                                                     \
-        WHEN(41, if ((a).outputs > 2)(a).outputs--);                         \
-        WHEN(42, if ((a).refused == 12 && (a).place > 0)(a).place--);        \
-        WHEN(43, if ((a).refused == 12)(a).steps = 0);                       \
-        WHEN(44, if ((a).refused == 12) totals->reactions ^= 1);             \
-        WHEN(45, if ((a).place == 8192)(a).place = (uint32_t)events_bytes / 8); \
-        WHEN(46, if (DONE && events_bytes > 16) WRITABLE(events)[12] ^= 1);  \
-        WHEN(47, if (DONE && events_bytes) WRITABLE(events)[events_bytes] = 0); \
-        WHEN(48, if ((a).highest > 2)(a).highest = 1);                       \
-        WHEN(49, if ((a).refused == 12)(a).finished = 0);                    \
-        WHEN(50, if ((a).refused == 10 && out_bytes > 0) out[0] ^= 1);       \
-        WHEN(60, if (DONE && events_bytes) WRITABLE(events)[-1] = 0);        \
-        WHEN(61, if (DONE) totals[-1].steps = 0);                            \
-        WHEN(62, if ((a).refused == 12)(a).refused = 11);                    \
-        WHEN(63, if (DONE && events_bytes && ((const volatile uint8_t *)     \
-                 events)[events_bytes] == 7)(a).place = 0);                  \
+#define BREAK_LIST(a)                                                         \
+    do {                                                                      \
+        WHEN(41, if ((a).outputs > 2)(a).outputs--);                          \
+        WHEN(42, if ((a).refused == 12 && (a).place > 0)(a).place--);         \
+        WHEN(43, if ((a).refused == 12)(a).steps = 0);                        \
+        WHEN(44, if ((a).refused == 12) totals->reactions ^= 1);              \
+        WHEN(45,                                                              \
+             if ((a).place == 8192)(a).place = (uint32_t)events_bytes / 8);   \
+        WHEN(46, if (DONE && events_bytes > 16) WRITABLE(events)[12] ^= 1);   \
+        WHEN(47,                                                              \
+             if (DONE && events_bytes) WRITABLE(events)[events_bytes] = 0);   \
+        WHEN(48, if ((a).highest > 2)(a).highest = 1);                        \
+        WHEN(49, if ((a).refused == 12)(a).finished = 0);                     \
+        WHEN(50, if ((a).refused == 10 && out_bytes > 0) out[0] ^= 1);        \
+        WHEN(60, if (DONE && events_bytes) WRITABLE(events)[-1] = 0);         \
+        WHEN(61, if (DONE) totals[-1].steps = 0);                             \
+        WHEN(62, if ((a).refused == 12)(a).refused = 11);                     \
+        WHEN(63,                                                              \
+             if (DONE && events_bytes &&                                      \
+                 ((const volatile uint8_t *)events)[events_bytes] == 7)(a)    \
+                 .place = 0);                                                 \
     } while (0)
 
 /* Behind a query and the remaining program.
@@ -170,19 +175,19 @@
  * FAULT 57: the guard behind the marks: the byte behind the marks is changed
  * FAULT 58: the guard before the outputs: the byte before is changed
  */
-#define BREAK_QUERY(a)                                                 \
-    do {                                                               \
-        WHEN(51, if ((a).number > 2)(a).number--);                     \
-        WHEN(52, if ((a).number > 1)(a).lowest++);                     \
-        WHEN(53, if (DONE) WRITABLE(marks)[marks_bytes / 2] ^= 1);     \
-        WHEN(57, if (DONE) WRITABLE(marks)[marks_bytes] = 0);          \
+#define BREAK_QUERY(a)                                                        \
+    do {                                                                      \
+        WHEN(51, if ((a).number > 2)(a).number--);                            \
+        WHEN(52, if ((a).number > 1)(a).lowest++);                            \
+        WHEN(53, if (DONE) WRITABLE(marks)[marks_bytes / 2] ^= 1);            \
+        WHEN(57, if (DONE) WRITABLE(marks)[marks_bytes] = 0);                 \
     } while (0)
-#define BREAK_REMAINING(a)                                             \
-    do {                                                               \
-        WHEN(54, if ((a).records > 6)(a).records++);                   \
-        WHEN(55, if (out[0] == 20) out[2] = (uint8_t)table_bytes);     \
+#define BREAK_REMAINING(a)                                                    \
+    do {                                                                      \
+        WHEN(54, if ((a).records > 6)(a).records++);                          \
+        WHEN(55, if (out[0] == 20) out[2] = (uint8_t)table_bytes);            \
         WHEN(56, if ((a).records * 8 < out_bytes) out[8 * (a).records] ^= 1); \
-        WHEN(58, if (DONE) out[-1] = 0);                               \
+        WHEN(58, if (DONE) out[-1] = 0);                                      \
     } while (0)
 
 #endif
