@@ -82,14 +82,20 @@ static bool wrong_lengths(uint32_t which, uint32_t kind, uint32_t slice,
     return true;
 }
 
+static bool wrong_slices(uint32_t which, uint32_t kind, try_scenario attempt)
+{
+    for (uint32_t slice = 0; slice < TOTALS; slice++)
+        if (takes(kind, slice) && !wrong_lengths(which, kind, slice, attempt))
+            return false;
+    return true;
+}
+
 static bool all_wrong_lengths(try_scenario attempt)
 {
     for (uint32_t which = 0; which < 4; which++)
         for (uint32_t kind = 0; kind < CALLS; kind++)
-            for (uint32_t slice = 0; slice < TOTALS; slice++)
-                if (takes(kind, slice) &&
-                    !wrong_lengths(which, kind, slice, attempt))
-                    return false;
+            if (!wrong_slices(which, kind, attempt))
+                return false;
     return true;
 }
 
@@ -127,18 +133,26 @@ static bool wrong_list(uint32_t records, int32_t odd_at, uint64_t odd,
     return then_rightly(&s, RUN_LIST, attempt);
 }
 
+/* A list of five with this record at each place, and behind the last. */
+static bool wrong_record(uint64_t record, int32_t off, try_scenario attempt)
+{
+    for (int32_t at = 0; at <= 5; at++)
+        if (!wrong_list(5, at, record, off, attempt))
+            return false;
+    return true;
+}
+
 static bool wrong_lists(try_scenario attempt)
 {
-    static const uint64_t words[] = {
+    static const uint64_t records[] = {
         0,         63,          64,          65,           128,
         255,       0x101,       0x8001,      0x10001,      0x800001,
         0x1000001, 0x80000001u, 0xffffff01u, 0xff00000000u};
     static const int32_t offs[] = {0, -1, -7, -8, 1, 7};
-    for (size_t w = 0; w < COUNT(words); w++)
+    for (size_t i = 0; i < COUNT(records); i++)
         for (size_t o = 0; o < COUNT(offs); o++)
-            for (int32_t at = 0; at <= 5; at++)
-                if (!wrong_list(5, at, words[w], offs[o], attempt))
-                    return false;
+            if (!wrong_record(records[i], offs[o], attempt))
+                return false;
     return true;
 }
 
