@@ -1,8 +1,6 @@
 /* Directed scenarios: every wrong length of every slice of every call, every
  * wrong event and list, and all of them together, for the order in which a
  * call refuses. */
-#include <string.h>
-
 #include "comparison.h"
 
 static void put_words(struct scenario *s, const uint8_t (*words)[3],

@@ -1,6 +1,4 @@
 /* Start, reaction, query and remaining program. */
-#include <string.h>
-
 #include "internal.h"
 
 /* "A refusal other than 12 ... returns zero counts and `waiting`". */

@@ -1,7 +1,6 @@
 /* Random programs from a start, and from random fitting marks: the announced
  * numbers are never exceeded, no rule is missing, and the marks written give
  * the final tree again. */
-#include <inttypes.h>
 #include <stdio.h>
 #include <stdlib.h>
 #include <string.h>

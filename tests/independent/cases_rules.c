@@ -1,6 +1,4 @@
 /* Directed cases for the rules, their steps counted by hand. */
-#include <string.h>
-
 #include "cases.h"
 
 /* loop (p and q) or loop (p or q), one side (await 1; break), the other side

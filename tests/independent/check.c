@@ -6,13 +6,9 @@ static bool stands_in(const struct program *p, size_t inner, size_t outer)
     return outer < inner && inner < outer + p->records[outer].span;
 }
 
-static uint32_t loops_around(const struct program *p, size_t place)
+static bool is_loop(uint32_t kind)
 {
-    uint32_t loops = 0;
-    for (size_t outer = 0; outer < place; outer++)
-        if (p->records[outer].kind == LOOP && stands_in(p, place, outer))
-            loops++;
-    return loops;
+    return kind == LOOP;
 }
 
 static bool is_every(uint32_t kind)
@@ -20,20 +16,25 @@ static bool is_every(uint32_t kind)
     return kind == EVERY_INPUT || kind == EVERY_INTERNAL;
 }
 
-static bool under_every(const struct program *p, size_t place)
+static bool is_every_or_fin(uint32_t kind)
 {
-    for (size_t outer = 0; outer < place; outer++)
-        if (is_every(p->records[outer].kind) && stands_in(p, place, outer))
-            return true;
-    return false;
+    return is_every(kind) || kind == FIN;
 }
 
-static bool under_fin(const struct program *p, size_t place)
+/* How many constructs of these kinds stand around a place. */
+static uint32_t around(const struct program *p, size_t place,
+                       bool (*of_these)(uint32_t kind))
 {
+    uint32_t found = 0;
     for (size_t outer = 0; outer < place; outer++)
-        if (p->records[outer].kind == FIN && stands_in(p, place, outer))
-            return true;
-    return false;
+        if (of_these(p->records[outer].kind) && stands_in(p, place, outer))
+            found++;
+    return found;
+}
+
+static uint32_t loops_around(const struct program *p, size_t place)
+{
+    return around(p, place, is_loop);
 }
 
 /* 4: "a break with no loop around it", place the break. */
@@ -53,7 +54,7 @@ static struct refusal stage_5(const struct program *p)
         uint32_t kind = p->records[place].kind;
         if (kind <= OUTPUT || kind == IF || kind == SEQUENCE)
             continue;
-        if (under_every(p, place) || under_fin(p, place))
+        if (around(p, place, is_every_or_fin) > 0)
             return ind_refuse(5, place);
     }
     return ind_accepted();
@@ -165,7 +166,7 @@ struct independent_checked ind_announced(const struct program *p)
         if (p->records[place].kind == EMIT)
             e++;
         if (p->records[place].kind == OUTPUT) {
-            if (under_every(p, place))
+            if (around(p, place, is_every) > 0)
                 inside++;
             else
                 outside++;

@@ -1,6 +1,4 @@
 /* The rules of a reaction: one call of ind_step is one step. */
-#include <stdlib.h>
-
 #include "internal.h"
 
 /* The node becomes @nop and keeps its place. */

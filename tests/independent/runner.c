@@ -2,7 +2,6 @@
  * the events and prints what happens. */
 #include <inttypes.h>
 #include <stdio.h>
-#include <string.h>
 
 #include "internal.h"
 

@@ -1,6 +1,4 @@
 /* Blocked, awake and clear. */
-#include <stdlib.h>
-
 #include "internal.h"
 
 /* "Blocked: awaits, every, fin; @canrun(m) at a level above m; a sequence or
