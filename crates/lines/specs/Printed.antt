@@ -6,8 +6,7 @@ use lib.IntN.{pos}
 use lib.ListN.{length, replicate}
 use Rattle.rules.specs.Stages.{unless, option, Stage, stage, firstRefusal}
 use Rattle.rules.specs.Limits.{recordBytes, variables, runnerOutputs}
-use Rattle.rules.specs.Number.{num32}
-use Rattle.rules.specs.Table.{byteAt, recordsOf}
+use Rattle.rules.specs.Table.{byteAt, numberAt, recordsOf}
 use Rattle.rules.specs.Check.{announced, tableStages}
 use Rattle.rules.specs.Calls.{Lent, Outcome, Sent, startCall, reactCall}
 use Rattle.rules.specs.Lists.{listFails, sentFrom}
@@ -21,8 +20,7 @@ runnerStages b es = tableStages b ++ (stage 11 (unless (leb (announced b .output
 unfoldable pub outLines : List ℕ → ℕ → ℕ → List ℕ
 unfolding outLine
 outLines room j zero = []
-outLines room j (suc k) =
-    outLine (record { name = byteAt room j 0; value = num32 (byteAt room j 4) (byteAt room j 5) (byteAt room j 6) (byteAt room j 7) }) ++ outLines room (suc j) k
+outLines room j (suc k) = outLine (record { name = byteAt room j 0; value = numberAt room j }) ++ outLines room (suc j) k
 
 -- the line of a call and those of its outputs, then what follows; a refusal ends the run
 unfoldable pub callLines : Sent → Outcome → List ℕ → List ℕ

@@ -11,21 +11,16 @@ use lib.ListN.{length, drop, length-append, length-take}
 use lib.Seq.{sets, sets-eq, take-append-seam, drop-append-add, drop-drop, take-all, take-append-le}
 use borrow.Author.Tests.{lt-ltb, le-ltb, ltb-true, ltb-false}
 use Rattle.rules.specs.Limits.{recordBytes, topTotal}
-use Rattle.rules.specs.Number.{bytes32}
 use Rattle.rules.specs.Memory.{Output}
-use Rattle.rules.specs.Calls.{outBytes, onto}
+use Rattle.rules.specs.Calls.{outRecord, outBytes, onto}
 use Rattle.rules.proofs.Buffers.{bytes-length, onto-length}
 use Rattle.memory.specs.Arrays.{putOutput}
 use Rattle.memory.specs.Stands.{fitting}
 
--- name, three zeros, value
-abbrev pub recordOf : ℕ → ℤ → List ℕ
-recordOf o z = o ∷ 0 ∷ 0 ∷ 0 ∷ bytes32 z
-
 abbrev pub made : ℕ → ℤ → Output
 made o z = record { name = o; value = z }
 
-pub bytes-after : (os : List Output) (o : ℕ) (z : ℤ) → outBytes (os ++ made o z ∷ []) ≡ outBytes os ++ recordOf o z
+pub bytes-after : (os : List Output) (o : ℕ) (z : ℤ) → outBytes (os ++ made o z ∷ []) ≡ outBytes os ++ outRecord o z
 unfolding outBytes
 bytes-after [] o z = refl
 bytes-after (p ∷ os) o z = rw (bytes-after os o z)
@@ -45,7 +40,7 @@ module _ (room : List ℕ) (os : List Output) (o : ℕ) (z : ℤ) where
       let size : length (onto (outBytes os) room) ≡ length room = onto-length (outBytes os) room (omega (arith, bytes-length os)) in
       let byte : o % 256 ≡ o = omega arith in
       rw (size, lt-ltb (length os) (length room / recordBytes) h, byte)
-      (sets-behind (outBytes os) room (recordOf o z) (recordBytes * length os) (bytes-length os) (omega arith)
+      (sets-behind (outBytes os) room (outRecord o z) (recordBytes * length os) (bytes-length os) (omega arith)
       ∙ ap (λ bs. onto bs room) (sym (bytes-after os o z)))
 
   -- the first outputs are those before

@@ -11,8 +11,9 @@ use lib.ListN.{length, getD, set}
 use lib.Seq.{sets}
 use Rattle.rules.specs.Stages.{if_then_else_, option}
 use Rattle.rules.specs.Limits.{recordBytes, variables, topTotal}
-use Rattle.rules.specs.Number.{sum, difference, quotient, isLess, isZero, bytes32}
+use Rattle.rules.specs.Number.{sum, difference, quotient, isLess, isZero}
 use Rattle.rules.specs.Tree.{Act, assign, increase, copy, subtract, compare, divide, output}
+use Rattle.rules.specs.Calls.{outRecord}
 
 -- the variables; the output room; the steps taken and the outputs made
 pub record Arrays : Type 0 where
@@ -43,7 +44,7 @@ isNonzero a v = not (isZero (variable (a .vars) v))
 
 -- the output after n others: name, three zeros, value, where the room has them
 abbrev pub putOutput : List ℕ → ℕ → ℕ → ℤ → List ℕ
-putOutput room n o z = if ltb n (length room / recordBytes) then sets room (recordBytes * n) (o % 256 ∷ 0 ∷ 0 ∷ 0 ∷ bytes32 z) else room
+putOutput room n o z = if ltb n (length room / recordBytes) then sets room (recordBytes * n) (outRecord (o % 256) z) else room
 
 abbrev pub store : Arrays → ℕ → ℤ → Arrays
 store a v z = record { vars = setVariable (a .vars) v z; out = a .out; counts = a .counts }
@@ -86,7 +87,7 @@ newValue k a b = if eqb k 2 then sum a b else if eqb k 4 then difference a b els
 -- ---- what a call promises that is lent some of the arrays only: with any others
 
 abbrev pub Ticks : List ℕ → List ℕ → Type 0
-Ticks c c' = (v : List ℤ) (o : List ℕ) → arrays v o c' ≡ tick (arrays v o c)
+Ticks c c′ = (v : List ℤ) (o : List ℕ) → arrays v o c′ ≡ tick (arrays v o c)
 
 abbrev pub Tests : Bool → List ℤ → ℕ → Type 0
 Tests b l v = (o c : List ℕ) → b ≡ isNonzero (arrays l o c) v

@@ -10,7 +10,7 @@ use Rattle.rules.specs.Limits.{topTotal}
 use Rattle.rules.specs.Tree.{Tree, await, emit, seq, atPar, input, internal, Par}
 use Rattle.rules.specs.Check.{mayEnd}
 use Rattle.rules.specs.Memory.{Memory}
-use Rattle.rules.specs.Step.{Nested, stuck, moved, going, front, blocked, clear, inPart, parStep, nestedStep, wakes, awake}
+use Rattle.rules.specs.Step.{Nested, stuck, moved, going, front, blocked, clear, inPart, parStep, nestedStep, inputEvent, internalEvent, wakes, awake}
 use Rattle.rules.specs.Calls.{countReaction}
 
 -- the tree after a nested step
@@ -43,11 +43,11 @@ unfolding mayEnd
 input-await-may-not-end i e = refl
 
 -- an input event wakes no internal await, and an internal one no input await, even where numbers agree
-pub input-wakes-no-internal : (i e f : ℕ) → awake (wakes (record { source = input; name = f })) (await i internal e) ≡ await i internal e
+pub input-wakes-no-internal : (i e f : ℕ) → awake (wakes (inputEvent f)) (await i internal e) ≡ await i internal e
 unfolding awake
 input-wakes-no-internal i e f = refl
 
-pub internal-wakes-no-input : (i e f : ℕ) → awake (wakes (record { source = internal; name = f })) (await i input e) ≡ await i input e
+pub internal-wakes-no-input : (i e f : ℕ) → awake (wakes (internalEvent f)) (await i input e) ≡ await i input e
 unfolding awake
 internal-wakes-no-input i e f = refl
 

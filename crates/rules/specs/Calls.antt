@@ -1,4 +1,4 @@
--- What a call tests, answers and leaves: stages 9 and 11, answers and refusals, running totals; the start and one reaction.
+-- What a call tests, answers and leaves: stages 9 to 11, answers and refusals, running totals; the start and one reaction.
 use mathlib.Core.Bool.{Bool, false}
 use mathlib.Core.List.{List, [], _∷_, _++_}
 use mathlib.Core.Option.{Option, none, some}
@@ -60,11 +60,15 @@ refuse l r = record { refused = some r; answer = record { finished = false; step
 abbrev pub tested : List Stage → Lent → Outcome → Outcome
 tested ss l o = option o (refuse l) (firstRefusal ss)
 
--- ---- outputs as bytes: name, three zeros, value
+-- ---- outputs as bytes
+
+-- name, three zeros, value
+abbrev pub outRecord : ℕ → ℤ → List ℕ
+outRecord o z = o ∷ 0 ∷ 0 ∷ 0 ∷ bytes32 z
 
 unfoldable pub outBytes : List Output → List ℕ
 outBytes [] = []
-outBytes (o ∷ os) = (o .name ∷ 0 ∷ 0 ∷ 0 ∷ bytes32 (o .value)) ++ outBytes os
+outBytes (o ∷ os) = outRecord (o .name) (o .value) ++ outBytes os
 
 -- bytes at the front of a buffer; those behind stay
 abbrev pub onto : List ℕ → List ℕ → List ℕ
@@ -114,15 +118,19 @@ answers l r g = record {
 
 -- ---- the calls
 
--- of the marks only their length is tested, and no event; a start is not counted in the totals
+-- of the marks only their length is tested, and no event
+abbrev pub startStages : List ℕ → Lent → List Stage
+startStages b l = tableStages b ++ (lengthStage b (l .marks) ∷ varsStage (l .vars) ∷ roomStage (announced b .outputs) (l .room) ∷ [])
+
+-- a start is not counted in the totals
 unfoldable pub startCall : List ℕ → Lent → Outcome
 unfolding tableStages announced firstRefusal start marksOf answers
-startCall b l =
-    tested (tableStages b ++ (lengthStage b (l .marks) ∷ varsStage (l .vars) ∷ roomStage (announced b .outputs) (l .room) ∷ [])) l
-    (answers l none (joinRun b (l .totals) (start b (l .vars)) (noneTaken l)))
+startCall b l = tested (startStages b l) l (answers l none (joinRun b (l .totals) (start b (l .vars)) (noneTaken l)))
+
+-- 1 to 11, in that order
+abbrev pub reactStages : List ℕ → Lent → Sent → List Stage
+reactStages b l s = tableStages b ++ (marksStages b (l .marks) ++ (varsStage (l .vars) ∷ eventStage (s .event) ∷ roomStage (announced b .outputs) (l .room) ∷ []))
 
 unfoldable pub reactCall : List ℕ → Lent → Sent → Outcome
 unfolding tableStages marksStages announced firstRefusal takeEvent answers
-reactCall b l s =
-    tested (tableStages b ++ (marksStages b (l .marks) ++ (varsStage (l .vars) ∷ eventStage (s .event) ∷ roomStage (announced b .outputs) (l .room) ∷ []))) l
-    (answers l none (takeEvent b s (noneTaken l)))
+reactCall b l s = tested (reactStages b l s) l (answers l none (takeEvent b s (noneTaken l)))

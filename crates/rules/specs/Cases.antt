@@ -11,7 +11,7 @@ use Rattle.rules.specs.Number.{bytes32}
 use Rattle.rules.specs.Table.{recordsOf}
 use Rattle.rules.specs.Check.{Verdict, check, announced}
 use Rattle.rules.specs.Check as Check
-use Rattle.rules.specs.Calls.{Outcome, Lent, onto, startCall, reactCall}
+use Rattle.rules.specs.Calls.{Outcome, Lent, outRecord, onto, startCall, reactCall}
 
 -- ---- programs as records in preorder, each construct with its span
 
@@ -140,7 +140,7 @@ holds b l o (steps n) = eqb n (o .answer .steps)
 holds b l o (emitted n) = eqb n (o .answer .emitted)
 holds b l o (highest n) = eqb n (o .answer .highest)
 holds b l o (outputs n) = eqb n (o .answer .outputs)
-holds b l o (wrote v z) = eqb 1 (o .answer .outputs) && same (onto (v ∷ 0 ∷ 0 ∷ 0 ∷ bytes32 z) (l .room)) (o .lent .room)
+holds b l o (wrote v z) = eqb 1 (o .answer .outputs) && same (onto (outRecord v z) (l .room)) (o .lent .room)
 holds b l o (variable v z) = same (bytes32 z) (bytes32 (getD (o .lent .vars) v (pos 0)))
 holds b l o (marks m) = same m (o .lent .marks)
 holds b l o (announcedSteps n) = eqb n (announced b .steps)

@@ -7,8 +7,7 @@ use lib.Dec.{eqb, ltb}
 use lib.ListN.{length}
 use Rattle.rules.specs.Stages.{if_then_else_, within, failing, refusal, Stage, stage, firstRefusal}
 use Rattle.rules.specs.Limits.{recordBytes, mostName, mostListBytes, listTooLong}
-use Rattle.rules.specs.Number.{num32}
-use Rattle.rules.specs.Table.{byteAt}
+use Rattle.rules.specs.Table.{byteAt, numberAt}
 use Rattle.rules.specs.Check.{announced, tableStages}
 use Rattle.rules.specs.Marks.{marksStages}
 use Rattle.rules.specs.Calls.{varsStage, Lent, Outcome, Taken, noneTaken, Sent, takeEvent, answers, tested}
@@ -30,7 +29,7 @@ listFails l =
 -- k of them, from index j on: event, three zeros, value
 unfoldable pub sentFrom : List ℕ → ℕ → ℕ → List Sent
 sentFrom l j zero = []
-sentFrom l j (suc k) = record { event = byteAt l j 0; value = num32 (byteAt l j 4) (byteAt l j 5) (byteAt l j 6) (byteAt l j 7) } ∷ sentFrom l (suc j) k
+sentFrom l j (suc k) = record { event = byteAt l j 0; value = numberAt l j } ∷ sentFrom l (suc j) k
 
 -- with room for n outputs in all; j is the index of the next event
 unfoldable pub takeEvents : List ℕ → Lent → ℕ → ℕ → List Sent → Taken → Outcome

@@ -6,11 +6,11 @@ use Prim.Native.Nat.{ℕ}
 use lib.ListN.{length, getD}
 use Rattle.rules.specs.Stages.{option, failing, Refusal, firstRefusal}
 use Rattle.rules.specs.Limits.{mostName}
-use Rattle.rules.specs.Tree.{Tree, nop, act, await, emit, break, ifvar, seq, loop, every, par, fin, canrun, atLoop, atPar, Source, input}
+use Rattle.rules.specs.Tree.{Tree, nop, act, await, emit, break, ifvar, seq, loop, every, par, fin, canrun, atLoop, atPar, Source}
 use Rattle.rules.specs.Table.{programOf}
 use Rattle.rules.specs.Check.{tableStages}
 use Rattle.rules.specs.Marks.{marksStages, atRest}
-use Rattle.rules.specs.Step.{wakes}
+use Rattle.rules.specs.Step.{inputEvent, wakes}
 
 -- some await or every on the spine that the test names
 unfoldable pub stirs : (ℕ → Source → ℕ → Bool) → Tree → Bool
@@ -32,7 +32,7 @@ stirs w (atPar i o p q) = stirs w p || stirs w q
 -- the input events that wake some place, rising
 unfoldable pub awaited : Tree → List ℕ
 unfolding failing stirs
-awaited t = failing (λ e. not (stirs (wakes (record { source = input; name = e })) t)) 1 mostName
+awaited t = failing (λ e. not (stirs (wakes (inputEvent e)) t)) 1 mostName
 
 -- their number, and the lowest of them, 0 where none
 pub record Asked : Type 0 where

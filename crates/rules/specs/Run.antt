@@ -5,11 +5,11 @@ use Prim.Native.Nat.{ℕ, zero, suc, max}
 use lib.IntN.{ℤ, pos}
 use lib.ListN.{set}
 use Rattle.rules.specs.Stages.{if_then_else_, isSome}
-use Rattle.rules.specs.Tree.{Tree, input}
+use Rattle.rules.specs.Tree.{Tree}
 use Rattle.rules.specs.Table.{programOf}
 use Rattle.rules.specs.Check.{announced}
 use Rattle.rules.specs.Marks.{atRest}
-use Rattle.rules.specs.Step.{Description, step}
+use Rattle.rules.specs.Step.{inputEvent, Description, step}
 
 -- steps, internal events emitted, highest level
 pub record Count : Type 0 where
@@ -36,7 +36,7 @@ run (suc f) d c = elim (step d) [ none ↦ record { last = d; count = c } | some
 
 -- an input event of a value is pending on a tree; the value is in variable 0
 abbrev pub faced : ℕ → ℤ → Tree → List ℤ → Description
-faced e z t x = record { tree = t; level = 0; pending = some (record { source = input; name = e }); memory = record { vars = set x 0 z; outs = [] } }
+faced e z t x = record { tree = t; level = 0; pending = some (inputEvent e); memory = record { vars = set x 0 z; outs = [] } }
 
 -- event 0, which nobody awaits, on the program itself
 unfoldable pub start : List ℕ → List ℤ → Ran

@@ -5,7 +5,7 @@ use Prim.Native.Nat.{ℕ, zero, suc}
 use lib.Dec.{eqb, ltb}
 use Rattle.rules.specs.Stages.{if_then_else_, option}
 use Rattle.rules.specs.Number.{isZero}
-use Rattle.rules.specs.Tree.{Tree, nop, act, await, emit, break, ifvar, seq, loop, every, par, fin, canrun, atLoop, atPar, Source, internal, eqSource, Par, and, or}
+use Rattle.rules.specs.Tree.{Tree, nop, act, await, emit, break, ifvar, seq, loop, every, par, fin, canrun, atLoop, atPar, Source, input, internal, eqSource, Par, and, or}
 use Rattle.rules.specs.Memory.{Memory, read, Deed, quiet, does, raises, effect}
 
 -- ---- blocked, clear, awake: the spine is the left of a sequence and @loop, and both sides of @and and @or
@@ -91,7 +91,7 @@ front (atPar i o p q) = going
 -- the step of a part is a step of the whole
 unfoldable pub inPart : (Tree → Tree) → Nested → Nested
 inPart whole stuck = stuck
-inPart whole (moved d t) = moved d (whole t)
+inPart whole (moved w t) = moved w (whole t)
 
 -- @nop;q becomes q; break;q becomes break; otherwise the left steps
 unfoldable pub seqStep : ℕ → Front → Tree → Nested → Nested
@@ -150,6 +150,12 @@ pub record Event : Type 0 where
   pub source : Source
   pub name : ℕ
 
+abbrev pub inputEvent : ℕ → Event
+inputEvent e = record { source = input; name = e }
+
+abbrev pub internalEvent : ℕ → Event
+internalEvent e = record { source = internal; name = e }
+
 -- an input event wakes kinds 8 and 15 only, an internal one 9 and 16 only
 abbrev pub wakes : Event → ℕ → Source → ℕ → Bool
 wakes v i s e = eqSource (v .source) s && eqb (v .name) e
@@ -173,7 +179,7 @@ pop n d = record { tree = d .tree; level = n; pending = none; memory = d .memory
 abbrev pub raised : Deed → Option Event
 raised quiet = none
 raised (does a v k) = none
-raised (raises e y) = some (record { source = internal; name = e })
+raised (raises e y) = some (internalEvent e)
 
 abbrev pub nested : Nested → Description → Option Description
 nested stuck d = none

@@ -69,6 +69,7 @@ nameAt b i = byteAt b i 1
 abbrev pub spanAt : List ℕ → ℕ → ℕ
 spanAt b i = byteAt b i 2 + 256 * byteAt b i 3
 
+-- also the value of an event in a list, and of an output
 abbrev pub numberAt : List ℕ → ℕ → ℤ
 numberAt b i = num32 (byteAt b i 4) (byteAt b i 5) (byteAt b i 6) (byteAt b i 7)
 

@@ -16,7 +16,7 @@ use Rattle.rules.specs.Check.{announced, tableStages}
 use Rattle.rules.specs.Marks.{lengthStage, marksStages}
 use Rattle.rules.specs.Step.{Description, step}
 use Rattle.rules.specs.Run.{Count, Ran, faced, nothingYet, reaction, run, start}
-use Rattle.rules.specs.Calls.{Lent, Outcome, Sent, Taken, Totals, answers, countReaction, eventStage, joinRun, noneTaken, outBytes, reactCall, refuse, roomStage, startCall, takeEvent, tested, varsStage}
+use Rattle.rules.specs.Calls.{Lent, Outcome, Sent, Taken, Totals, answers, countReaction, eventStage, joinRun, noneTaken, outBytes, reactCall, reactStages, refuse, roomStage, startCall, startStages, takeEvent, tested, varsStage}
 use Rattle.rules.proofs.Buffers.{bytes-length, onto-length}
 use Rattle.theory.specs.Logic.{clash}
 use Rattle.theory.specs.Memory.{effect-vars}
@@ -37,6 +37,7 @@ vars-keep n d c d′ h e = go (step-is-rule d d′ e)
     go (pops p l i) = h
     go (inside {w = w} p g) = effect-vars w (d .memory) ∙ h
 
+-- a run from the description that meets an event
 met-vars : (f e : ℕ) (z : ℤ) (t : Tree) (x : List ℤ) → length (run f (faced e z t x) nothingYet .last .memory .vars) ≡ length x
 met-vars f e z t x = run-keeps (λ d c. length (d .memory .vars) ≡ length x) (vars-keep (length x)) f (faced e z t x) nothingYet (length-set x 0 z)
 
@@ -50,6 +51,7 @@ start-vars b x = met-vars (announced b .steps) 0 (pos 0) (programOf b) x
 
 -- ---- stages one after the other
 
+-- an outcome that is not refused: every stage passed, and it is the outcome behind them
 pub tested-none : (ss : List Stage) (l : Lent) (o : Outcome) → tested ss l o .refused ≡ none → (firstRefusal ss ≡ none) × (tested ss l o ≡ o)
 tested-none ss l o e = go (firstRefusal ss) refl e
   where
@@ -63,7 +65,7 @@ pub record Fine (b : List ℕ) (l : Lent) (o : Outcome) : Type 0 where
   pub marks : firstRefusal (marksStages b (o .lent .marks)) ≡ none
   pub vars : length (o .lent .vars) ≡ variables
   pub room : length (o .lent .room) ≡ length (l .room)
-  pub outputs : 8 * o .answer .outputs ≤ length (l .room)
+  pub outputs : recordBytes * o .answer .outputs ≤ length (l .room)
 
 -- the same of what was taken, with room for n outputs
 pub record Held (b : List ℕ) (n : ℕ) (g : Taken) : Type 0 where
@@ -113,7 +115,7 @@ unfolding reactCall
 react-fine b l s e =
     let end : List Stage = lastStages b l in
     let o : Outcome = answers l none (takeEvent b s (noneTaken l)) in
-    let t = tested-none (tableStages b ++ (marksStages b (l .marks) ++ (varsStage (l .vars) ∷ eventStage (s .event) ∷ end))) l o e in
+    let t = tested-none (reactStages b l s) l o e in
     let p = first-append (tableStages b) (marksStages b (l .marks) ++ (varsStage (l .vars) ∷ eventStage (s .event) ∷ end)) (t .0) in
     let q = first-append (marksStages b (l .marks)) (varsStage (l .vars) ∷ eventStage (s .event) ∷ end) (p .1) in
     let v = enough-vars (l .vars) (eventStage (s .event) ∷ end) (q .1) in
@@ -131,7 +133,7 @@ start-fine b l e =
     let end : List Stage = lastStages b l in
     let g : Taken = joinRun b (l .totals) (start b (l .vars)) (noneTaken l) in
     let o : Outcome = answers l none g in
-    let t = tested-none (tableStages b ++ (lengthStage b (l .marks) ∷ varsStage (l .vars) ∷ end)) l o e in
+    let t = tested-none (startStages b l) l o e in
     let p = first-append (tableStages b) (lengthStage b (l .marks) ∷ varsStage (l .vars) ∷ end) (t .0) in
     let q = next (lengthStage b (l .marks)) (varsStage (l .vars) ∷ end) (p .1) in
     let v = enough-vars (l .vars) end (q .later) in
@@ -155,10 +157,8 @@ tested-some ss l o r n e = go (firstRefusal ss) e
 
 pub react-refused : (b : List ℕ) (l : Lent) (s : Sent) (r : Refusal) → reactCall b l s .refused ≡ some r → reactCall b l s ≡ refuse l r
 unfolding reactCall
-react-refused b l s r e =
-    tested-some (tableStages b ++ (marksStages b (l .marks) ++ (varsStage (l .vars) ∷ eventStage (s .event) ∷ lastStages b l))) l (answers l none (takeEvent b s (noneTaken l))) r (unfold answers in refl) e
+react-refused b l s r e = tested-some (reactStages b l s) l (answers l none (takeEvent b s (noneTaken l))) r (unfold answers in refl) e
 
 pub start-refused : (b : List ℕ) (l : Lent) (r : Refusal) → startCall b l .refused ≡ some r → startCall b l ≡ refuse l r
 unfolding startCall
-start-refused b l r e =
-    tested-some (tableStages b ++ (lengthStage b (l .marks) ∷ varsStage (l .vars) ∷ lastStages b l)) l (answers l none (joinRun b (l .totals) (start b (l .vars)) (noneTaken l))) r (unfold answers in refl) e
+start-refused b l r e = tested-some (startStages b l) l (answers l none (joinRun b (l .totals) (start b (l .vars)) (noneTaken l))) r (unfold answers in refl) e

@@ -8,8 +8,8 @@ use native.Mathlib.Nat.{mul-le-mul-right}
 use lib.IntN.{ℤ}
 use lib.ListN.{length}
 use Rattle.rules.specs.Limits.{Announced, announce}
-use Rattle.rules.specs.Tree.{Tree, input, spanOf}
-use Rattle.rules.specs.Step.{Description, push, step, wakes}
+use Rattle.rules.specs.Tree.{Tree, spanOf}
+use Rattle.rules.specs.Step.{Description, inputEvent, push, step, wakes}
 use Rattle.rules.specs.Run.{Count, Ran, faced, nothingYet, run, tally}
 use Rattle.theory.specs.Logic.{clash}
 use Rattle.theory.specs.Program.{Program, Good, emitCount, outputsOutside, outputsInside}
@@ -23,6 +23,7 @@ use Rattle.theory.specs.Invariant.{Ok, ok-keeps, AtRest, ended, pendingC
 use Rattle.theory.specs.RunKeeps.{run-keeps}
 use Rattle.theory.specs.Ready.{Ready}
 
+-- how a run r of the program t ends, with the announced numbers a
 pub record Done (t : Tree) (a : Announced) (r : Ran) : Type 0 where
   pub still : step (r .last) ≡ none
   pub rests : AtRest (r .last)
@@ -35,7 +36,7 @@ pub record Done (t : Tree) (a : Announced) (r : Ran) : Type 0 where
 
 -- after the first step, the push of the input event
 abbrev after : ℕ → ℤ → Tree → List ℤ → Description
-after k z u x = push (record { source = input; name = k }) (faced k z u x)
+after k z u x = push (inputEvent k) (faced k z u x)
 
 module _ (t : Tree) (D : ℕ) (h : Program t) where
   abbrev pub promised : Announced
@@ -55,7 +56,7 @@ module _ (t : Tree) (D : ℕ) (h : Program t) where
     first-budget : (s o h A K : ℕ) → eventCost s (emitWeight s o h A) o t ≤ A → fullCost s (emitWeight s o h A) o t * (D + 1) + due s o h A ≤ K → First s o h A K
     first-budget s o h A K a b =
         let e : ℕ = emitWeight s o h A in
-        let y = roused s e o (wakes (record { source = input; name = k })) u (r .good) in
+        let y = roused s e o (wakes (inputEvent k)) u (r .good) in
         record { good = y .good; small = omega (arith, y .adding, r .adding s e o); ours = tt; most = omega (arith, y .more, tree-full s e o (after k z u x .tree), r .most s e o, r .adding s e o) }
 
     -- steps: 5N(D+1), and N+2 for each of the 1+X pushes

@@ -9,12 +9,12 @@ use lib.IntN.{ℤ, pos}
 use lib.ListN.{set}
 use Rattle.rules.specs.Stages.{firstRefusal}
 use Rattle.rules.specs.Limits.{Announced}
-use Rattle.rules.specs.Tree.{Tree, input, internal}
+use Rattle.rules.specs.Tree.{Tree}
 use Rattle.rules.specs.Table.{programOf}
 use Rattle.rules.specs.Check.{accepted, announced, check}
 use Rattle.rules.specs.Marks.{atRest, marksStages}
 use Rattle.rules.specs.Memory.{Deed, Memory, effect}
-use Rattle.rules.specs.Step.{Description, Event, awake, blocked, front, isDone, nopOrBlocked, raised, step, wakes}
+use Rattle.rules.specs.Step.{Description, awake, blocked, front, inputEvent, internalEvent, isDone, nopOrBlocked, raised, step, wakes}
 use Rattle.rules.specs.Run.{Count, Ran, faced, nothingYet, reaction, run, start, tally}
 use Rattle.theory.specs.Logic.{clash, or-right}
 use Rattle.theory.specs.Program.{Program, loose}
@@ -34,6 +34,7 @@ use Rattle.theory.specs.Big.{Fate, ends, breaks, waits, amiss, rings, Ou
 abbrev pub calmAt : ℕ → Tree → Memory → Description
 calmAt n t m = record { tree = t; level = n; pending = none; memory = m }
 
+-- j steps more
 abbrev pub ticks : ℕ → Count → Count
 ticks j c = record { steps = c .steps + j; emitted = c .emitted; highest = c .highest }
 
@@ -97,16 +98,13 @@ popped j c = ticks (j + 1) c
 abbrev pub pushed : ℕ → ℕ → Count → Count
 pushed j n c = record { steps = c .steps + (j + 1); emitted = suc (c .emitted); highest = max (c .highest) n }
 
-abbrev pub own : ℕ → Event
-own e = record { source = internal; name = e }
-
 -- by the fate of the run at level suc n
 unfoldable pub turn : ℕ → Fate → Out → Count → (ℕ → Tree → Memory → Count → Ran) → Ran
 turn n ends o c again = again n (o .tree) (o .mem) (popped (o .steps) c)
 turn n breaks o c again = record { last = calmAt (suc n) (o .tree) (o .mem); count = ticks (o .steps) c }
 turn n waits o c again = again n (o .tree) (o .mem) (popped (o .steps) c)
 turn n amiss o c again = record { last = calmAt (suc n) (o .tree) (o .mem); count = c }
-turn n (rings e) o c again = again (suc (suc n)) (awake (wakes (own e)) (o .tree)) (o .mem) (pushed (o .steps) (suc (suc n)) c)
+turn n (rings e) o c again = again (suc (suc n)) (awake (wakes (internalEvent e)) (o .tree)) (o .mem) (pushed (o .steps) (suc (suc n)) c)
 
 -- f runs at most; at level 0 it has ended
 unfoldable pub big : ℕ → ℕ → Tree → Memory → Count → Ran
@@ -132,14 +130,14 @@ chain-pop n j t t′ m m′ c h d i =
     (subst (λ x. Leads 1 (calmAt (suc n) t′ m′) (ticks j c) (calmAt n t′ m′) x) k (leads-one (calmAt (suc n) t′ m′) (calmAt n t′ m′) (ticks j c) (step-pop n t′ m′ i)))
 
 -- after a chain, an emit and a push
-chain-push : (n j e : ℕ) (t t′ : Tree) (m m′ : Memory) (c : Count) → suc n ≤ c .highest → Rung (suc n) e t m t′ m′ j → Leads (j + 1) (calmAt (suc n) t m) c (calmAt (suc (suc n)) (awake (wakes (own e)) t′) m′) (pushed j (suc (suc n)) c)
+chain-push : (n j e : ℕ) (t t′ : Tree) (m m′ : Memory) (c : Count) → suc n ≤ c .highest → Rung (suc n) e t m t′ m′ j → Leads (j + 1) (calmAt (suc n) t m) c (calmAt (suc (suc n)) (awake (wakes (internalEvent e)) t′) m′) (pushed j (suc (suc n)) c)
 chain-push n j e t t′ m m′ c h r =
     let d₁ : Description = calmAt (suc n) (r .at) (r .mem) in
-    let d₂ : Description = record { tree = t′; level = suc n; pending = some (own e); memory = m′ } in
-    let d₃ : Description = calmAt (suc (suc n)) (awake (wakes (own e)) t′) m′ in
+    let d₂ : Description = record { tree = t′; level = suc n; pending = some (internalEvent e); memory = m′ } in
+    let d₃ : Description = calmAt (suc (suc n)) (awake (wakes (internalEvent e)) t′) m′ in
     let c₁ : Count = ticks (r .before) c in
     let c₂ : Count = tally d₂ c₁ in
-    let emits-to : step d₁ ≡ some d₂ = subst (λ x. step d₁ ≡ some (record { tree = t′; level = suc n; pending = some (own e); memory = x })) (sym (r .memory)) (step-goes (r .emits-now)) in
+    let emits-to : step d₁ ≡ some d₂ = subst (λ x. step d₁ ≡ some (record { tree = t′; level = suc n; pending = some (internalEvent e); memory = x })) (sym (r .memory)) (step-goes (r .emits-now)) in
     let pushes-to : step d₂ ≡ some d₃ = rule-is-step (pushes refl) in
     let k : tally d₃ c₂ ≡ pushed j (suc (suc n)) c =
     count-is (suc (suc (c .steps + r .before))) (c .steps + (j + 1)) (suc (c .emitted)) (suc (c .emitted)) (max (max (c .highest) (suc n)) (suc (suc n))) (max (c .highest) (suc (suc n))) (omega (arith, r .count)) refl (omega arith) in
@@ -195,7 +193,7 @@ module _ (p : Tree) (h : Program p) where
       (chain-pop n (o .steps) t (o .tree) m (o .mem) c q (z .0) (or-right (isDone (front (o .tree))) (blocked (suc n) (o .tree)) (z .1))) k (omega arith) (omega arith) e b
   turns f g n t m c again k q e b amiss o z = absurd z
   turns f g n t m c again k q e b (rings v) o z =
-      onwards f g (o .steps + 1) (suc n) (suc (suc n)) t (awake (wakes (own v)) (o .tree)) m (o .mem) c (pushed (o .steps) (suc (suc n)) c) again
+      onwards f g (o .steps + 1) (suc n) (suc (suc n)) t (awake (wakes (internalEvent v)) (o .tree)) m (o .mem) c (pushed (o .steps) (suc (suc n)) c) again
       (chain-push n (o .steps) v t (o .tree) m (o .mem) c q z) k (omega arith) (omega arith) e b
 
   -- above level 0 a step is always left
@@ -224,37 +222,35 @@ module _ (p : Tree) (h : Program p) where
 
 -- ---- the start and the reaction of a table
 
-abbrev pub heardNow : ℕ → Event
-heardNow e = record { source = input; name = e }
-
 -- the push of the input event is one step, to level 1
 abbrev pub oneStep : Count
 oneStep = record { steps = 1; emitted = 0; highest = 1 }
 
+-- the memory that a start or a reaction begins with
 abbrev pub begun : List ℤ → ℤ → Memory
 begun x z = record { vars = set x 0 z; outs = [] }
 
 unfoldable pub bigReaction : List ℕ → List ℕ → List ℤ → ℕ → ℤ → Ran
 unfolding big awake atRest programOf announced
-bigReaction b m x e z = big (announced b .steps) 1 (awake (wakes (heardNow e)) (atRest m (programOf b))) (begun x z) oneStep
+bigReaction b m x e z = big (announced b .steps) 1 (awake (wakes (inputEvent e)) (atRest m (programOf b))) (begun x z) oneStep
 
 unfoldable pub bigStart : List ℕ → List ℤ → Ran
 unfolding big awake programOf announced
-bigStart b x = big (announced b .steps) 1 (awake (wakes (heardNow 0)) (programOf b)) (begun x (pos 0)) oneStep
+bigStart b x = big (announced b .steps) 1 (awake (wakes (inputEvent 0)) (programOf b)) (begun x (pos 0)) oneStep
 
 met-big : (p : Tree) → Program p → (e : ℕ) (z : ℤ) (u : Tree) (x : List ℤ) → Ok p (faced e z u x) nothingYet → (s : ℕ) → step (run s (faced e z u x) nothingYet .last) ≡ none → run s (faced e z u x) nothingYet .count .steps ≤ s →
-    run s (faced e z u x) nothingYet ≡ big s 1 (awake (wakes (heardNow e)) u) (begun x z) oneStep
+    run s (faced e z u x) nothingYet ≡ big s 1 (awake (wakes (inputEvent e)) u) (begun x z) oneStep
 met-big p h e z u x k zero n b =
-    let d : Description = calmAt 1 (awake (wakes (heardNow e)) u) (begun x z) in
+    let d : Description = calmAt 1 (awake (wakes (inputEvent e)) u) (begun x z) in
     let o : step (faced e z u x) ≡ some d = rule-is-step (pushes refl) in
     let q : step (faced e z u x) ≡ none = unfold run in n in
     let y : some d ≡ none = sym o ∙ q in
     clash (cc)
 met-big p h e z u x k (suc s) n b =
-    let d : Description = calmAt 1 (awake (wakes (heardNow e)) u) (begun x z) in
+    let d : Description = calmAt 1 (awake (wakes (inputEvent e)) u) (begun x z) in
     let o : step (faced e z u x) ≡ some d = rule-is-step (pushes refl) in
     let y : run (suc s) (faced e z u x) nothingYet ≡ run s d oneStep = run-step s (faced e z u x) d nothingYet o in
-    let w = big-run p h (suc s) s 1 (awake (wakes (heardNow e)) u) (begun x z) oneStep (ok-keeps p h (faced e z u x) nothingYet d k o) (omega arith) (subst (λ r. step (r .last) ≡ none) y n) (omega (arith, b, ap (λ r. r .count .steps) y)) in
+    let w = big-run p h (suc s) s 1 (awake (wakes (inputEvent e)) u) (begun x z) oneStep (ok-keeps p h (faced e z u x) nothingYet d k o) (omega arith) (subst (λ r. step (r .last) ≡ none) y n) (omega (arith, b, ap (λ r. r .count .steps) y)) in
     y ∙ sym w
 
 pub reaction-big : (b : List ℕ) (a : Announced) → check b ≡ accepted a → (m : List ℕ) → firstRefusal (marksStages b m) ≡ none → (x : List ℤ) (e : ℕ) (z : ℤ) → reaction b m x e z ≡ bigReaction b m x e z

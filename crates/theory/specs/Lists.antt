@@ -1,8 +1,8 @@
 -- A list of events. What it answers is the fold of its reactions over the events taken; it stops only where the room left is below
 -- the announced outputs, and so never where there is room for every event at the announced size.
-use mathlib.Core.List.{foldl, List, [], _∷_, _++_}
 use mathlib.Core.Path.{_≡_, refl, sym, ap, subst, _∙_}
 use mathlib.Core.Bool.{Bool, true, false}
+use mathlib.Core.List.{foldl, List, [], _∷_, _++_}
 use mathlib.Core.Option.{Option, none, some}
 use Prim.Native.Nat.{ℕ, zero, suc, _+_, _-_, _*_, _/_, _≤_, _<_}
 use native.Mathlib.Omega.{arith}
@@ -10,10 +10,9 @@ use native.Mathlib.Nat.{zero-add}
 use lib.Dec.{ltb}
 use lib.ListN.{length}
 use borrow.Author.Tests.{ltb-true, ltb-false, le-ltb}
-use Rattle.rules.specs.Number.{num32}
-use Rattle.rules.specs.Table.{byteAt}
 use Rattle.rules.specs.Stages.{Refusal, firstRefusal, if_then_else_, refusal, stage}
 use Rattle.rules.specs.Limits.{recordBytes}
+use Rattle.rules.specs.Table.{byteAt, numberAt}
 use Rattle.rules.specs.Check.{announced, tableStages}
 use Rattle.rules.specs.Marks.{marksStages}
 use Rattle.rules.specs.Calls.{Lent, Outcome, Sent, Taken, answers, noneTaken, refuse, takeEvent, varsStage}
@@ -35,7 +34,7 @@ roomOf l = length (l .room) / recordBytes
 
 -- the event at index j
 abbrev sentAt : List ℕ → ℕ → Sent
-sentAt es j = record { event = byteAt es j 0; value = num32 (byteAt es j 4) (byteAt es j 5) (byteAt es j 6) (byteAt es j 7) }
+sentAt es j = record { event = byteAt es j 0; value = numberAt es j }
 
 -- ---- k events from index j on, with room for n outputs in all
 
