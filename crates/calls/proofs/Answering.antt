@@ -4,20 +4,20 @@ use mathlib.Core.Path.{_≡_, refl, sym, ap, _∙_}
 use mathlib.Core.Bool.{_&&_}
 use mathlib.Core.List.{List, [], _∷_}
 use mathlib.Core.Option.{Option, none}
-use Prim.Native.Nat.{ℕ, _+_, _*_, _≤_, _<_, min}
+use Prim.Native.Nat.{ℕ, _≤_, _<_, min}
 use native.Mathlib.Omega.{arith}
 use lib.Dec.{eqb, eqb→eq}
 use lib.IntN.{ℤ}
 use lib.ListN.{length, getD, take}
 use lib.Seq.{ext-getD, getD-take, length-take-le}
-use Rattle.rules.specs.Stages.{Refusal, Stage, failing, firstRefusal, if_then_else_, option, refusal, stage}
-use Rattle.rules.specs.Limits.{mostRecords, recordBytes, topTotal, variables}
-use Rattle.rules.specs.Table.{programOf, recordsOf}
+use Rattle.rules.specs.Stages.{Refusal, Stage, firstRefusal, if_then_else_, refusal}
+use Rattle.rules.specs.Limits.{mostRecords, topTotal, variables}
+use Rattle.rules.specs.Table.{kindAt, recordsOf}
 use Rattle.rules.specs.Check.{announced, refused}
-use Rattle.rules.specs.Marks.{allZero, lengthStage, markRight, marksStages, mayMark, misfits}
+use Rattle.rules.specs.Marks.{allZero, marksStages, mayMark}
 use Rattle.rules.specs.Calls.{Lent, Outcome, Taken, answers, onto, outBytes, refuse, tested}
 use Rattle.theory.specs.Logic.{both-left, or-cases}
-use Rattle.theory.specs.Stages.{next, none-fails, unless-true}
+use Rattle.theory.specs.Accepted.{marks-pass, verdict-refused}
 use Rattle.acceptance.specs.Verdicts.{verdictOf}
 use Rattle.acceptance.specs.declared.Refusal as Code
 use Rattle.acceptance.specs.declared.Checked.{Checked}
@@ -25,32 +25,23 @@ use Rattle.acceptance.specs.declared.Checked.the-variants.{Refused}
 use Rattle.memory.specs.Arrays.{arrays}
 use Rattle.memory.proofs.Standing.{stands-room}
 use Rattle.calls.specs.declared.Answer.{Answer}
-use Rattle.calls.specs.Answers.{Ran, Uncounted, answerRefused}
+use Rattle.calls.specs.Answers.{Ran, Uncounted, answerRefused, refusalNumber, refusalPlace}
 use Rattle.calls.specs.Holding.{Bytes, Stored}
 use Rattle.calls.specs.Stages.{judged}
-use Rattle.calls.proofs.Judging.{verdict-refused}
 use Rattle.calls.proofs.Holding.{Holds}
 
 -- ---- marks that pass stage 8
 
 module _ (b m : List ℕ) (e : firstRefusal (marksStages b m) ≡ none) where
-  abbrev right : Stage
-  right = stage 8 (failing (markRight b m) 0 (recordsOf b))
-
-  abbrev fit : Stage
-  fit = stage 8 (misfits m (programOf b))
-
   pub marks-sized : length m ≡ recordsOf b
-  unfolding marksStages
-  marks-sized = eqb→eq (length m) (recordsOf b) (unless-true (eqb (length m) (recordsOf b)) (next (lengthStage b m) (right ∷ fit ∷ []) e .clean))
+  marks-sized = marks-pass b m e .long
 
   pub marks-low : (j : ℕ) → j < recordsOf b → getD m j 0 < 256
-  unfolding marksStages
   marks-low j h =
-      or-cases (eqb (getD m j 0) 0) (eqb (getD m j 0) 1 && mayMark (getD b (recordBytes * j + 0) 0))
+      or-cases (eqb (getD m j 0) 0) (eqb (getD m j 0) 1 && mayMark (kindAt b j))
       (λ t. omega (arith, eqb→eq (getD m j 0) 0 t))
-      (λ t. omega (arith, eqb→eq (getD m j 0) 1 (both-left (eqb (getD m j 0) 1) (mayMark (getD b (recordBytes * j + 0) 0)) t)))
-      (none-fails (markRight b m) 0 (recordsOf b) (next right (fit ∷ []) (next (lengthStage b m) (right ∷ fit ∷ []) e .later) .clean) j (omega arith) (omega arith))
+      (λ t. omega (arith, eqb→eq (getD m j 0) 1 (both-left (eqb (getD m j 0) 1) (mayMark (kindAt b j)) t)))
+      (marks-pass b m e .right j h)
 
 -- ---- what is stored
 
@@ -90,7 +81,7 @@ module _ (b room : List ℕ) {k : ℕ} {g : Taken} {st : List ℕ} {v : List ℤ
   room-is = stands-room (h .stands) (h .held .outs)
 
   -- the answer beside any refusal q, 12 or none
-  pub answered : recordsOf b ≤ mostRecords → k ≤ 8192 → (l : Lent) → l .room ≡ room → (q : Option Refusal) {number place : ℕ} → number ≡ option 0 (λ r. r .number) q → place ≡ option 0 (λ r. r .place) q →
+  pub answered : recordsOf b ≤ mostRecords → k ≤ 8192 → (l : Lent) → l .room ≡ room → (q : Option Refusal) {number place : ℕ} → number ≡ refusalNumber q → place ≡ refusalPlace q →
       (m : List ℕ) → length m ≡ recordsOf b → {r : Answer} {m′ : List ℕ} {v′ : List ℤ} → Stored number place em hi st v c m r m′ v′ → Uncounted (answers l q g) r m′ v′ o
   unfolding answers
   answered few n l e q x y m w s =

@@ -16,6 +16,7 @@ use Rattle.rules.specs.Check.{accepted, announced, check, refused, tableStages,
 use Rattle.rules.specs.Marks.{marksStages}
 use Rattle.rules.specs.Calls.{roomStage, varsStage}
 use Rattle.theory.specs.Logic.{clash}
+use Rattle.theory.specs.Accepted.{verdict-refused, verdict-accepted}
 use Rattle.acceptance.specs.Counts.{announcedOf}
 use Rattle.acceptance.specs.Verdicts.{verdictOf}
 use Rattle.acceptance.specs.declared.Announced.{Announced}
@@ -28,14 +29,6 @@ use Rattle.marks.specs.Fitting.{refusedAt}
 use Rattle.table.specs.declared.Found.{Found}
 use Rattle.table.specs.declared.Found.the-variants.{At, Nothing}
 use Rattle.calls.specs.Stages.{Low, judged, standingStages}
-
-pub verdict-refused : (o : Option Refusal) (a : Rules.Announced) {r : Refusal} → verdict o a ≡ refused r → o ≡ some r
-verdict-refused none a e = clash (cc)
-verdict-refused (some q) a e = cc
-
-verdict-accepted : (o : Option Refusal) (a : Rules.Announced) {a′ : Rules.Announced} → verdict o a ≡ accepted a′ → (o ≡ none) × (a ≡ a′)
-verdict-accepted none a e = (refl, cc)
-verdict-accepted (some q) a e = clash (cc)
 
 -- what the first stages refuse, and what they let pass
 first-some : (xs ys : List Stage) {r : Refusal} → firstRefusal xs ≡ some r → firstRefusal (xs ++ ys) ≡ some r

@@ -11,7 +11,7 @@ use lib.Dec.{leb, ltb}
 use lib.IntN.{ℤ}
 use lib.ListN.{length, getD, set}
 use borrow.Author.Tests.{leb-false, leb-true, le-ltb, lt-ltb, ltb-false, ltb-true}
-use Rattle.rules.specs.Stages.{Refusal, firstRefusal, option, refusal, stage}
+use Rattle.rules.specs.Stages.{Refusal, firstRefusal, refusal, stage}
 use Rattle.rules.specs.Limits.{listTooLong, mostListBytes, mostRecords, recordBytes, topTotal}
 use Rattle.rules.specs.Table.{kindAt, numberAt}
 use Rattle.rules.specs.Check.{announced}
@@ -26,7 +26,7 @@ use Rattle.acceptance.specs.declared.Refusal as Code
 use Rattle.engine.specs.Walks.{arrayOps, mostRounds, roundOf}
 use Rattle.engine.specs.declared.Rounded.{Rounded}
 use Rattle.calls.specs.declared.Answer.{Answer}
-use Rattle.calls.specs.Answers.{Ran, Uncounted, lent, sentOf}
+use Rattle.calls.specs.Answers.{Ran, Uncounted, lent, refusalNumber, refusalPlace, sentOf}
 use Rattle.calls.specs.Holding.{Stored, stopAt}
 use Rattle.calls.specs.Stages.{runStages}
 use Rattle.calls.proofs.Passed.{passed-few}
@@ -162,10 +162,10 @@ module _ (b m : List ℕ) (v₀ : List ℤ) (es o₀ : List ℕ) (p : firstRefus
         (omega (arith, made-are g, most, g .holds .held .outs, ap (λ n. n / recordBytes) (g .same-room), leb-false (getD c 1 0 + outputs) (length o / recordBytes) f))
 
     module _ {q : Code.Refusal} (h : q ≡ stopAt (length es / recordBytes) i) {r : Answer} {m′ : List ℕ} {v′ : List ℤ} (s : Stored (q .number) (q .place) em hi st v c m r m′ v′) where
-      answer : (z : Option Refusal) → q .number ≡ option 0 (λ (y : Refusal). y .number) z → q .place ≡ option 0 (λ (y : Refusal). y .place) z → Uncounted (answers all z (takenFirst b all es i)) r m′ v′ o
+      answer : (z : Option Refusal) → q .number ≡ refusalNumber z → q .place ≡ refusalPlace z → Uncounted (answers all z (takenFirst b all es i)) r m′ v′ o
       answer z a d = answered b o₀ (g .holds) (passed-few b (run-ready .table)) (omega (arith, g .within, few-events)) all refl z a d m (marks-sized b m (run-ready .marks)) s
 
-      ran : (z : Option Refusal) → listCall b all es ≡ answers all z (takenFirst b all es i) → q .number ≡ option 0 (λ (y : Refusal). y .number) z → q .place ≡ option 0 (λ (y : Refusal). y .place) z →
+      ran : (z : Option Refusal) → listCall b all es ≡ answers all z (takenFirst b all es i) → q .number ≡ refusalNumber z → q .place ≡ refusalPlace z →
           Ran (listCall b all es) (record { answer = r; taken = i }) m′ v′ o
       unfolding answers
       ran z w a d = subst (λ (y : Outcome). Ran y (record { answer = r; taken = i }) m′ v′ o) (sym w) record { is = answer z a d; taken = sym (reactions-are b all es refl i (omega (arith, g .within, few-events))) }

@@ -3,7 +3,7 @@
 use mathlib.Core.Path.{_≡_}
 use mathlib.Core.Bool.{Bool, true, false, not}
 use mathlib.Core.List.{List, [], _∷_, _++_}
-use Prim.Native.Nat.{ℕ, suc, _+_, _-_, _*_, _/_, _%_, _≤_, _<_}
+use Prim.Native.Nat.{ℕ, _+_, _*_, _/_, _%_, _≤_, _<_}
 use native.Mathlib.Numerals.{add-one}
 use native.Mathlib.Omega.{arith}
 use lib.Dec.{eqb}
@@ -29,24 +29,6 @@ module _ (m : List ℕ) (i : ℕ) where
   pub zeros-over : i ≡ length m → allZero (drop i m) ≡ true
   unfolding allZero
   zeros-over e = rw (e, drop-length m)
-
--- ---- places that fail a test
-
-pub all-left : (ok : ℕ → Bool) (n : ℕ) → failing ok 0 n ≡ failing ok 0 (n - 0)
-all-left ok n = let h : n - 0 ≡ n = omega arith in rw h
-
-module _ (ok : ℕ → Bool) (i n : ℕ) where
-  pub passes-here : i < n → ok i ≡ true → failing ok i (n - i) ≡ failing ok (i + 1) (n - (i + 1))
-  unfolding failing
-  passes-here p e = let h : n - i ≡ suc (n - (i + 1)) = omega arith in rw (h, e, add-one i)
-
-  pub fails-here : i < n → ok i ≡ false → failing ok i (n - i) ≡ i ∷ failing ok (i + 1) (n - (i + 1))
-  unfolding failing
-  fails-here p e = let h : n - i ≡ suc (n - (i + 1)) = omega arith in rw (h, e, add-one i)
-
-  pub fails-over : n ≤ i → failing ok i (n - i) ≡ []
-  unfolding failing
-  fails-over p = let h : n - i ≡ 0 = omega arith in rw h
 
 -- ---- the events of a list
 

@@ -1,9 +1,10 @@
 -- What a call answers and leaves, of an outcome of the rules.
 use mathlib.Core.Path.{_≡_}
 use mathlib.Core.List.{List}
+use mathlib.Core.Option.{Option}
 use Prim.Native.Nat.{ℕ, _+_, min}
 use lib.IntN.{ℤ}
-use Rattle.rules.specs.Stages.{if_then_else_, option}
+use Rattle.rules.specs.Stages.{if_then_else_, option, Refusal}
 use Rattle.rules.specs.Limits.{topTotal}
 use Rattle.rules.specs.Calls.{Totals, Lent, Outcome, Sent}
 use Rattle.calls.specs.declared.Answer.{Answer}
@@ -22,11 +23,18 @@ lent m v o = lentOf m v o noTotals
 abbrev pub sentOf : ℕ → ℤ → Sent
 sentOf e z = record { event = e; value = z }
 
--- number and place of the refusal, 0 and 0 for none; then the answer
+-- number and place of a refusal, 0 and 0 for none
+abbrev pub refusalNumber : Option Refusal → ℕ
+refusalNumber = option 0 (λ r. r .number)
+
+abbrev pub refusalPlace : Option Refusal → ℕ
+refusalPlace = option 0 (λ r. r .place)
+
+-- those, and the answer; 1 for finished
 abbrev pub answerOf : Outcome → Answer
 answerOf o = record {
-  refused = option 0 (λ r. r .number) (o .refused);
-  place = option 0 (λ r. r .place) (o .refused);
+  refused = refusalNumber (o .refused);
+  place = refusalPlace (o .refused);
   finished = if o .answer .finished then 1 else 0;
   highest = o .answer .highest;
   steps = o .answer .steps;

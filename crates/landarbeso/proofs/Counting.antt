@@ -16,7 +16,7 @@ use Rattle.theory.specs.Logic.{both-left, both-right, clash}
 use Rattle.totals.specs.Sum.{totalsOf, addTotals, Counted}
 use Rattle.totals.specs.declared.Totals as Code
 use Rattle.calls.specs.Stages.{reactStages}
-use Rattle.calls.specs.Answers.{lent, Uncounted, Ran, counting}
+use Rattle.calls.specs.Answers.{lent, refusalNumber, Uncounted, Ran, counting}
 use Rattle.calls.specs.declared.Answer.{Answer}
 use Rattle.calls.specs.declared.Listed.{Listed}
 use Rattle.landarbeso.specs.Counted.{Meant}
@@ -49,18 +49,18 @@ module _ (b m : List ℕ) (v : List ℤ) (x : List ℕ) (s : Sent) where
   unfolding tableStages marksStages
   react-numbered = tt
 
-  counts-one : (f : Option Refusal) → firstRefusal (reactStages b m v (s .event) x) ≡ f → option 0 (λ (r : Refusal). r .number) (by f .refused) ≡ 0 → 1 ≡ by f .lent .totals .reactions
+  counts-one : (f : Option Refusal) → firstRefusal (reactStages b m v (s .event) x) ≡ f → refusalNumber (by f .refused) ≡ 0 → 1 ≡ by f .lent .totals .reactions
   unfolding answers takeEvent
   counts-one none d z = refl
   counts-one (some r) d z = absurd (omega (arith, first-number (reactStages b m v (s .event) x) react-numbered d, z))
 
-  counts-none : (f : Option Refusal) → (option 0 (λ (r : Refusal). r .number) (by f .refused) ≡ 0 → ⊥) → 0 ≡ by f .lent .totals .reactions
+  counts-none : (f : Option Refusal) → (refusalNumber (by f .refused) ≡ 0 → ⊥) → 0 ≡ by f .lent .totals .reactions
   unfolding answers takeEvent
   counts-none none z = absurd (z refl)
   counts-none (some r) z = refl
 
   module _ {r : Answer} {m′ : List ℕ} {v′ : List ℤ} {x′ : List ℕ} (u : Uncounted (reactCall b (lent m v x) s) r m′ v′ x′) where
-    said : r .refused ≡ option 0 (λ (q : Refusal). q .number) (reactCall b (lent m v x) s .refused)
+    said : r .refused ≡ refusalNumber (reactCall b (lent m v x) s .refused)
     said = ap (λ (a : Answer). a .refused) (u .answer)
 
     pub reacted-one : r .refused ≡ 0 → Ran (reactCall b (lent m v x) s) (record { answer = r; taken = 1 }) m′ v′ x′

@@ -10,7 +10,7 @@ use lib.ListN.{List·getD-eq-default}
 use borrow.Author.Tests.{ltb-false}
 use Rattle.rules.specs.Table.{Children, leaf, one, two, wrong, kinds, over19, kindAt, spanAt, secondAt, rowAt, recordsOf, spanFits}
 use Rattle.theory.specs.Logic.{both-left, both-right}
-use Rattle.table.specs.Kinds.{arity, childrenOf}
+use Rattle.table.specs.Kinds.{rowOf, arity, childrenOf}
 use Rattle.table.specs.Places.{Place, SpanFor}
 
 -- ---- kinds
@@ -20,7 +20,8 @@ unfolding childrenOf
 over-19 k h = rw (List·getD-eq-default kinds over19 h)
 
 -- a kind that is known has as many children as the kinds table says: at a numeral k the last argument is `tt`
-pub children-from : {n m : ℕ} (k : ℕ) → n ≡ k → T (leb m (childrenOf k)) → m ≤ childrenOf n
+pub children-from : {n m : ℕ} (k : ℕ) → n ≡ k → T (leb m (arity (rowOf k .children))) → m ≤ childrenOf n
+unfolding childrenOf
 children-from {n} {m} k e h = rw e (lit≤ h)
 
 -- ---- spans

@@ -1,18 +1,18 @@
 -- The tree at a place: its node, over the trees at its children's places.
 -- Assumes nothing.
-use mathlib.Core.Path.{_≡_, refl}
+use mathlib.Core.Path.{_≡_, refl, sym, ap, ap₂, subst, _∙_}
 use mathlib.Core.List.{List}
 use Prim.Native.Nat.{ℕ, zero, suc, _+_, _≤_, _<_}
 use native.Mathlib.Omega.{arith}
 use lib.IntN.{ℤ}
 use Rattle.rules.specs.Tree.{Tree, nop, input, internal, assign, increase, copy, subtract, compare, divide, output, and, or, spanOf}
 use Rattle.rules.specs.Table.{Children, leaf, one, two, wrong, Kind, kindAt, nameAt, numberAt, spanAt, secondAt, rowAt, treeAt, recordsOf}
-use Rattle.theory.specs.Decode.{Whole, tree-whole, tree-fuel}
+use Rattle.theory.specs.Logic.{_also_}
+use Rattle.theory.specs.Decode.{Whole, nodeOver, tree-whole, tree-fuel}
 use Rattle.theory.specs.Program.{Program}
-use Rattle.theory.specs.Again.{Placed}
 use Rattle.table.specs.Kinds.{rowOf, arity, childrenOf}
 use Rattle.table.specs.Places.{Place, treeOf, Node, aNop, anAct, anAwait, anEmit, aBreak, anIf, aSeq, aLoop, anEvery, aPar, aFin}
-use Rattle.table.proofs.Counting.{each}
+use Rattle.table.proofs.Counting.{Each, each}
 use Rattle.table.proofs.Places.{kind-most, down-place, next-place}
 
 -- a row of the kinds table makes nothing of children that it does not have
@@ -27,21 +27,37 @@ RowIgnores k = Ignores (rowOf k .children) (rowOf k)
 
 row-ignores : (k : ℕ) → k < 20 → RowIgnores k
 row-ignores =
-    each RowIgnores 20
-    ((λ i v k p q. refl), ((λ i v k p q. refl), ((λ i v k p q. refl), ((λ i v k p q. refl), ((λ i v k p q. refl), ((λ i v k p q. refl), ((λ i v k p q. refl), ((λ i v k p q. refl), ((λ i v k p q. refl), ((λ i v k p q. refl), ((λ i v k p q. refl), ((λ i v k p q. refl), (tt, (tt, ((λ i v k p q. refl), ((λ i v k p q. refl), ((λ i v k p q. refl), (tt, (tt, ((λ i v k p q. refl), tt))))))))))))))))))))
+    each RowIgnores 20 (
+    (λ i v k p q. refl) also
+    (λ i v k p q. refl) also
+    (λ i v k p q. refl) also
+    (λ i v k p q. refl) also
+    (λ i v k p q. refl) also
+    (λ i v k p q. refl) also
+    (λ i v k p q. refl) also
+    (λ i v k p q. refl) also
+    (λ i v k p q. refl) also
+    (λ i v k p q. refl) also
+    (λ i v k p q. refl) also
+    (λ i v k p q. refl) also
+    tt also
+    tt also
+    (λ i v k p q. refl) also
+    (λ i v k p q. refl) also
+    (λ i v k p q. refl) also
+    tt also
+    tt also
+    (λ i v k p q. refl) also
+    tt
+    )
 
 -- one unrolling, with any fuel f for the children that gives the trees at their places
 unroll : (s : Children) (r : Kind) (b : List ℕ) (f i : ℕ) → Ignores s r → (1 ≤ arity s → treeAt f b (i + 1) ≡ treeOf b (i + 1)) → (2 ≤ arity s → treeAt f b (secondAt b i) ≡ treeOf b (secondAt b i)) →
-    _≡_ {A = Tree} (elim s [
-      | leaf ↦ r .make i (nameAt b i) (numberAt b i) (nop i) (nop i)
-      | one ↦ r .make i (nameAt b i) (numberAt b i) (treeAt f b (i + 1)) (nop i)
-      | two ↦ r .make i (nameAt b i) (numberAt b i) (treeAt f b (i + 1)) (treeAt f b (secondAt b i))
-      | wrong ↦ nop i
-    ])
-    (r .make i (nameAt b i) (numberAt b i) (treeOf b (i + 1)) (treeOf b (secondAt b i)))
+    nodeOver (treeAt f b) b i r s ≡ r .make i (nameAt b i) (numberAt b i) (treeOf b (i + 1)) (treeOf b (secondAt b i))
 unroll leaf r b f i g d n = g i (nameAt b i) (numberAt b i) (treeOf b (i + 1)) (treeOf b (secondAt b i))
-unroll one r b f i g d n = rw (d (omega arith)) (g i (nameAt b i) (numberAt b i) (treeOf b (i + 1)) (treeOf b (secondAt b i)))
-unroll two r b f i g d n = rw (d (omega arith), n (omega arith))
+unroll one r b f i g d n =
+    ap (λ (p : Tree). r .make i (nameAt b i) (numberAt b i) p (nop i)) (d (omega arith)) ∙ g i (nameAt b i) (numberAt b i) (treeOf b (i + 1)) (treeOf b (secondAt b i))
+unroll two r b f i g d n = ap₂ (λ (p q : Tree). r .make i (nameAt b i) (numberAt b i) p q) (d (omega arith)) (n (omega arith))
 unroll wrong r b f i g d n = absurd g
 
 module _ (b : List ℕ) (i : ℕ) (p : Place b i) where
@@ -49,7 +65,7 @@ module _ (b : List ℕ) (i : ℕ) (p : Place b i) where
   unfolding treeOf
   fuel f j e q l = tree-fuel b (recordsOf b) (p .shape) f (recordsOf b) j (q .inside) (omega arith) (omega arith)
 
-  -- THE law of a walk
+  -- the law of every walk
   pub tree-at : treeOf b i ≡ rowAt b i .make i (nameAt b i) (numberAt b i) (treeOf b (i + 1)) (treeOf b (secondAt b i))
   unfolding treeOf treeAt childrenOf
   tree-at = go (recordsOf b) refl
@@ -65,19 +81,39 @@ module _ (b : List ℕ) (i : ℕ) (p : Place b i) where
   pub tree-kind : (k : ℕ) → kindAt b i ≡ k → treeOf b i ≡ rowOf k .make i (nameAt b i) (numberAt b i) (treeOf b (i + 1)) (treeOf b (secondAt b i))
   tree-kind k e = rw e at tree-at
 
-  NodeOf : ℕ → Type 0
-  NodeOf k = kindAt b i ≡ k → Node b i (rowOf k .make i (nameAt b i) (numberAt b i) (treeOf b (i + 1)) (treeOf b (secondAt b i)))
-
-  nodes : (k : ℕ) → k < 20 → NodeOf k
-  unfolding NodeOf
-  nodes =
-      each NodeOf 20
-      (aNop, (anAct assign, (anAct increase, (anAct copy, (anAct subtract, (anAct compare, (anAct divide, (anAct output, (anAwait input, (anAwait internal, (anEmit, (aBreak, (anIf, (aSeq, (aLoop, (anEvery input, (anEvery internal, (aPar and, (aPar or, (aFin, tt))))))))))))))))))))
+  -- what holds of each kind and the node that it makes, from kind 0 on, holds here
+  pub by-kind : (P : ℕ → Tree → Type 0) → Each (λ k. P k (rowOf k .make i (nameAt b i) (numberAt b i) (treeOf b (i + 1)) (treeOf b (secondAt b i)))) 0 20 → P (kindAt b i) (treeOf b i)
+  by-kind P a =
+      subst (P (kindAt b i)) (sym tree-at)
+      (each (λ k. P k (rowOf k .make i (nameAt b i) (numberAt b i) (treeOf b (i + 1)) (treeOf b (secondAt b i)))) 20 a (kindAt b i) (kind-most b i p))
 
   -- by cases of the tree that stands here
   pub node-at : Node b i (treeOf b i)
-  unfolding NodeOf
-  node-at = rw tree-at (nodes (kindAt b i) (kind-most b i p) refl)
+  node-at =
+      by-kind (λ k t. kindAt b i ≡ k → Node b i t) (
+      aNop also
+      anAct assign also
+      anAct increase also
+      anAct copy also
+      anAct subtract also
+      anAct compare also
+      anAct divide also
+      anAct output also
+      anAwait input also
+      anAwait internal also
+      anEmit also
+      aBreak also
+      anIf also
+      aSeq also
+      aLoop also
+      anEvery input also
+      anEvery internal also
+      aPar and also
+      aPar or also
+      aFin also
+      tt
+      )
+      refl
 
   whole : Whole b (recordsOf b) i (treeOf b i)
   unfolding treeOf
@@ -88,9 +124,6 @@ module _ (b : List ℕ) (i : ℕ) (p : Place b i) where
 
   pub tree-program : Program (treeOf b i)
   tree-program = whole .made .program
-
-  pub tree-placed : Placed i (treeOf b i)
-  tree-placed = whole .made .placed
 
   -- the places of the tree are those from i on, as many as the span says
   pub span-inside : i + spanAt b i ≤ recordsOf b

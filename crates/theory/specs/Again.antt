@@ -1,6 +1,6 @@
 -- A tree that has come to rest is read again from its marks, and they fit.
 use mathlib.Core.Path.{_≡_, refl, sym, ap, subst, _∙_}
-use mathlib.Core.Bool.{Bool, true, false, _||_}
+use mathlib.Core.Bool.{Bool, true, false, _||_, or-false}
 use mathlib.Core.List.{List, [], _∷_, _++_}
 use mathlib.Core.Option.{none, some}
 use Prim.Native.Nat.{ℕ, _+_, _≤_, _<_}
@@ -66,25 +66,25 @@ pub member-here : (i : ℕ) (l : List ℕ) → T (member i (i ∷ l))
 unfolding member
 member-here i l = or-left (eqb i i) (member i l) (eqb-refl i)
 
+pub member-one : (j i : ℕ) → T (member j (i ∷ [])) → j ≡ i
+unfolding member
+member-one j i t = or-cases (eqb j i) false (eqb→eq j i) (λ h. absurd h) t
+
 pub member-left : (j : ℕ) (a b : List ℕ) → T (member j a) → T (member j (a ++ b))
 member-left j a b h = subst T (sym (member-append j a b)) (or-left (member j a) (member j b) h)
 
 pub member-right : (j : ℕ) (a b : List ℕ) → T (member j b) → T (member j (a ++ b))
 member-right j a b h = subst T (sym (member-append j a b)) (or-right (member j a) (member j b) h)
 
-or-false : (a b : Bool) → b ≡ false → (a || b) ≡ a
-or-false true b e = refl
-or-false false b e = e
-
 -- ---- where a tree's waiting places lie
 
+-- j is one of the n places from lo on
 pub record In (lo n j : ℕ) : Type 0 where
   pub above : lo ≤ j
   pub below : j < lo + n
 
 only : (j i k n : ℕ) → i ≡ k → T (member j (i ∷ [])) → In k (1 + n) j
-unfolding member
-only j i k n e t = or-cases (eqb j i) false (λ h. record { above = omega (arith, eqb→eq j i h); below = omega (arith, eqb→eq j i h) }) (λ h. absurd h) t
+only j i k n e t = let h : j ≡ i = member-one j i t in record { above = omega arith; below = omega arith }
 
 calm-waits : (c : Tree) → Calm c → waits c ≡ []
 unfolding Calm waits
@@ -231,7 +231,7 @@ apart v w l = omega (arith, v .below, w .above)
 
 agree-left : (m ws vs : List ℕ) (k n : ℕ) → Agree m (ws ++ vs) k n → ((j : ℕ) → T (member j vs) → In k n j → ⊥) → Agree m ws k n
 unfolding Agree
-agree-left m ws vs k n u f j w = u j w ∙ member-append j ws vs ∙ or-false (member j ws) (member j vs) (never (member j vs) (λ t. f j t w))
+agree-left m ws vs k n u f j w = u j w ∙ member-append j ws vs ∙ ap (λ b. member j ws || b) (never (member j vs) (λ t. f j t w)) ∙ or-false (member j ws)
 
 agree-right : (m ws vs : List ℕ) (k n : ℕ) → Agree m (ws ++ vs) k n → ((j : ℕ) → T (member j ws) → In k n j → ⊥) → Agree m vs k n
 unfolding Agree

@@ -8,12 +8,12 @@ use native.Mathlib.Omega.{arith}
 use lib.Dec.{eqb, T, eqb→eq}
 use lib.ListN.{length, getD}
 use borrow.Author.Tests.{eqb-true}
-use Rattle.rules.specs.Stages.{Stage, failing, firstRefusal, if_then_else_, stage}
+use Rattle.rules.specs.Stages.{firstRefusal, if_then_else_}
 use Rattle.rules.specs.Limits.{Announced}
 use Rattle.rules.specs.Tree.{Tree, act, atLoop, atPar, await, break, canrun, emit, every, fin, ifvar, loop, nop, par, seq, spanOf}
 use Rattle.rules.specs.Table.{programOf, recordsOf}
 use Rattle.rules.specs.Check.{accepted, check}
-use Rattle.rules.specs.Marks.{atRest, lengthStage, markRight, marked, marksOf, marksStages, misfits, orNop, restOf, waits}
+use Rattle.rules.specs.Marks.{atRest, marked, marksOf, marksStages, orNop, restOf, waits}
 use Rattle.theory.specs.Logic.{both-left, both-right, or-cases, T→true}
 use Rattle.theory.specs.Program.{Program, Calm, Good}
 use Rattle.theory.specs.Again.{Placed, member, member-here, member-left, member-right, In}
@@ -21,8 +21,7 @@ use Rattle.theory.specs.Marks.{spots, kept, waitsO, waits-rest}
 use Rattle.theory.specs.Frame.{Lies, own, left, right, lies}
 use Rattle.theory.specs.WrittenMarks.{bit, written, written-length}
 use Rattle.theory.specs.Decode.{Waiting, markable}
-use Rattle.theory.specs.Stages.{next, unless-true, none-fails}
-use Rattle.theory.specs.Accepted.{accepts, fitting}
+use Rattle.theory.specs.Accepted.{accepts, marks-pass}
 
 one : (k j : ℕ) → In k 1 j → j ≡ k
 one k j w = omega (arith, w .above, w .below)
@@ -140,23 +139,19 @@ mark-is v x s t h =
     t
 
 pub marks-back : (b : List ℕ) (a : Announced) → check b ≡ accepted a → (m : List ℕ) → firstRefusal (marksStages b m) ≡ none → marksOf (recordsOf b) (atRest m (programOf b)) ≡ m
-unfolding marksStages atRest
+unfolding atRest
 marks-back b a c m f =
     let k = accepts b a c in
     let n : ℕ = recordsOf b in
     let t : Tree = programOf b in
-    let s2 : Stage = stage 8 (failing (markRight b m) 0 n) in
-    let s3 : Stage = stage 8 (misfits m t) in
-    let p1 = next (lengthStage b m) (s2 ∷ s3 ∷ []) f in
-    let p2 = next s2 (s3 ∷ []) (p1 .later) in
-    let len : length m ≡ n = eqb→eq (length m) n (unless-true (eqb (length m) n) (p1 .clean)) in
+    let g = marks-pass b m f in
     let all : length (marksOf n (orNop (restOf m t))) ≡ n = written-length n (orNop (restOf m t)) in
-    let ws : waits (orNop (restOf m t)) ≡ kept m (spots t) = waits-orNop (restOf m t) ∙ waits-rest m t (fitting b m f) in
-    same-lists (marksOf n (orNop (restOf m t))) m (all ∙ sym len)
+    let ws : waits (orNop (restOf m t)) ≡ kept m (spots t) = waits-orNop (restOf m t) ∙ waits-rest m t (g .fits) in
+    same-lists (marksOf n (orNop (restOf m t))) m (all ∙ sym (g .long))
     (λ j l.
     let i : j < n = omega (arith, all) in
     written n (orNop (restOf m t)) j i
     ∙ ap (λ (x : List ℕ). bit (member j x)) ws
     ∙ ap bit (member-kept m (spots t) j)
-    ∙ mark-is (getD m j 0) (markable b j) (member j (spots t)) (none-fails (markRight b m) 0 n (p2 .clean) j (omega arith) (omega arith))
+    ∙ mark-is (getD m j 0) (markable b j) (member j (spots t)) (g .right j i)
     (λ x. spot (markable b) j 0 t (k .program) (k .good) (k .placed) (k .waiting) (record { above = omega arith; below = omega (arith, k .sized) }) x))

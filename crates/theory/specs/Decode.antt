@@ -1,5 +1,5 @@
 -- A table that passes stage 2 is a program in preorder, whose waiting nodes stand at kinds that may be marked.
-use mathlib.Core.Path.{_≡_, refl, sym, subst}
+use mathlib.Core.Path.{_≡_, refl, sym, ap, ap₂, subst}
 use mathlib.Core.Bool.{Bool, false, not, _&&_, _||_}
 use mathlib.Core.List.{List, [], _∷_}
 use Prim.Native.Nat.{ℕ, zero, suc, _+_, _≤_, _<_}
@@ -10,9 +10,9 @@ use lib.ListN.{getD}
 use Rattle.rules.specs.Tree.{Tree, act, atLoop, atPar, await, break, canrun, emit, every, fin, ifvar, loop, nop, par, seq, spanOf}
 use Rattle.rules.specs.Table.{Children, Kind, kindAt, kinds, leaf, nameAt, numberAt, one, over19, rowAt, secondAt, shapeRight, spanAt, spanFits, treeAt, two, wrong}
 use Rattle.rules.specs.Marks.{mayMark, waits}
-use Rattle.theory.specs.Again.{Placed, member, member-append, calm-none}
+use Rattle.theory.specs.Again.{Placed, member, member-one, member-append, calm-none}
 use Rattle.theory.specs.Residue.{Left, whole, tidy, breaking, leaving, seqL, seqR, ifL, ifR, loopIn, parBoth, parL, parR, ready, awaited, everyOn, sent}
-use Rattle.theory.specs.Logic.{both-left, both-right, or-cases}
+use Rattle.theory.specs.Logic.{both-left, both-right, or-cases, _also_}
 use Rattle.theory.specs.Program.{Program}
 
 -- ---- a rule of the kinds table, at every kind
@@ -59,34 +59,30 @@ Makes f x wrong r = Unit {0}
 abbrev Right : (ℕ → Bool) → ℕ → Kind → Type 0
 Right f k r = Makes f (mayMark k) (r .children) r
 
-infixr 4 _then_
-abbrev _then_ : {A B : Type 0} → A → B → A × B
-a then b = (a, b)
-
 -- from kind 0 on, as in the kinds table
 all-right : (f : ℕ → Bool) → AllK (Right f) kinds
 unfolding spanOf Program Placed Waiting
 all-right f =
-    (λ i v k e. record { sized = refl; program = tt; placed = refl; waiting = e }) then
-    (λ i v k e. record { sized = refl; program = tt; placed = refl; waiting = e }) then
-    (λ i v k e. record { sized = refl; program = tt; placed = refl; waiting = e }) then
-    (λ i v k e. record { sized = refl; program = tt; placed = refl; waiting = e }) then
-    (λ i v k e. record { sized = refl; program = tt; placed = refl; waiting = e }) then
-    (λ i v k e. record { sized = refl; program = tt; placed = refl; waiting = e }) then
-    (λ i v k e. record { sized = refl; program = tt; placed = refl; waiting = e }) then
-    (λ i v k e. record { sized = refl; program = tt; placed = refl; waiting = e }) then
-    (λ i v k e. record { sized = refl; program = tt; placed = refl; waiting = rw e tt }) then
-    (λ i v k e. record { sized = refl; program = tt; placed = refl; waiting = rw e tt }) then
-    (λ i v k e. record { sized = refl; program = tt; placed = refl; waiting = e }) then
-    (λ i v k e. record { sized = refl; program = tt; placed = refl; waiting = e }) then
-    (λ i v k e p q m n h g. record { sized = omega (arith, h .sized, g .sized); program = (h .program, g .program); placed = (refl, h .placed, rw (h .sized) (g .placed)); waiting = (e, h .waiting, g .waiting) }) then
-    (λ i v k e p q m n h g. record { sized = omega (arith, h .sized, g .sized); program = (h .program, g .program); placed = (refl, h .placed, rw (h .sized) (g .placed)); waiting = (e, h .waiting, g .waiting) }) then
-    (λ i v k e p m h. record { sized = omega (arith, h .sized); program = h .program; placed = (refl, h .placed); waiting = (e, h .waiting) }) then
-    (λ i v k e p m h. record { sized = omega (arith, h .sized); program = h .program; placed = (refl, h .placed); waiting = (rw e tt, h .waiting) }) then
-    (λ i v k e p m h. record { sized = omega (arith, h .sized); program = h .program; placed = (refl, h .placed); waiting = (rw e tt, h .waiting) }) then
-    (λ i v k e p q m n h g. record { sized = omega (arith, h .sized, g .sized); program = (h .program, g .program); placed = (refl, h .placed, rw (h .sized) (g .placed)); waiting = (e, h .waiting, g .waiting) }) then
-    (λ i v k e p q m n h g. record { sized = omega (arith, h .sized, g .sized); program = (h .program, g .program); placed = (refl, h .placed, rw (h .sized) (g .placed)); waiting = (e, h .waiting, g .waiting) }) then
-    (λ i v k e p m h. record { sized = omega (arith, h .sized); program = h .program; placed = (refl, h .placed); waiting = (rw e tt, h .waiting) }) then
+    (λ i v k e. record { sized = refl; program = tt; placed = refl; waiting = e }) also
+    (λ i v k e. record { sized = refl; program = tt; placed = refl; waiting = e }) also
+    (λ i v k e. record { sized = refl; program = tt; placed = refl; waiting = e }) also
+    (λ i v k e. record { sized = refl; program = tt; placed = refl; waiting = e }) also
+    (λ i v k e. record { sized = refl; program = tt; placed = refl; waiting = e }) also
+    (λ i v k e. record { sized = refl; program = tt; placed = refl; waiting = e }) also
+    (λ i v k e. record { sized = refl; program = tt; placed = refl; waiting = e }) also
+    (λ i v k e. record { sized = refl; program = tt; placed = refl; waiting = e }) also
+    (λ i v k e. record { sized = refl; program = tt; placed = refl; waiting = rw e tt }) also
+    (λ i v k e. record { sized = refl; program = tt; placed = refl; waiting = rw e tt }) also
+    (λ i v k e. record { sized = refl; program = tt; placed = refl; waiting = e }) also
+    (λ i v k e. record { sized = refl; program = tt; placed = refl; waiting = e }) also
+    (λ i v k e p q m n h g. record { sized = omega (arith, h .sized, g .sized); program = (h .program, g .program); placed = (refl, h .placed, rw (h .sized) (g .placed)); waiting = (e, h .waiting, g .waiting) }) also
+    (λ i v k e p q m n h g. record { sized = omega (arith, h .sized, g .sized); program = (h .program, g .program); placed = (refl, h .placed, rw (h .sized) (g .placed)); waiting = (e, h .waiting, g .waiting) }) also
+    (λ i v k e p m h. record { sized = omega (arith, h .sized); program = h .program; placed = (refl, h .placed); waiting = (e, h .waiting) }) also
+    (λ i v k e p m h. record { sized = omega (arith, h .sized); program = h .program; placed = (refl, h .placed); waiting = (rw e tt, h .waiting) }) also
+    (λ i v k e p m h. record { sized = omega (arith, h .sized); program = h .program; placed = (refl, h .placed); waiting = (rw e tt, h .waiting) }) also
+    (λ i v k e p q m n h g. record { sized = omega (arith, h .sized, g .sized); program = (h .program, g .program); placed = (refl, h .placed, rw (h .sized) (g .placed)); waiting = (e, h .waiting, g .waiting) }) also
+    (λ i v k e p q m n h g. record { sized = omega (arith, h .sized, g .sized); program = (h .program, g .program); placed = (refl, h .placed, rw (h .sized) (g .placed)); waiting = (e, h .waiting, g .waiting) }) also
+    (λ i v k e p m h. record { sized = omega (arith, h .sized); program = h .program; placed = (refl, h .placed); waiting = (rw e tt, h .waiting) }) also
     tt
 
 -- the kinds that may be marked, by place
@@ -98,6 +94,15 @@ row-right b i = at (Right (markable b)) over19 (λ k. tt) kinds (all-right (mark
 
 -- ---- the tree of a table that passes stage 2
 
+-- the node at place i of a row with so many children, over the trees that `below` gives at their places: so `treeAt` makes it
+abbrev pub nodeOver : (ℕ → Tree) → List ℕ → ℕ → Kind → Children → Tree
+nodeOver below b i r s = elim s [
+  | leaf ↦ r .make i (nameAt b i) (numberAt b i) (nop i) (nop i)
+  | one ↦ r .make i (nameAt b i) (numberAt b i) (below (i + 1)) (nop i)
+  | two ↦ r .make i (nameAt b i) (numberAt b i) (below (i + 1)) (below (secondAt b i))
+  | wrong ↦ nop i
+]
+
 pub record Whole (b : List ℕ) (n i : ℕ) (t : Tree) : Type 0 where
   pub made : Made (markable b) (spanAt b i) i t
   pub fits : i + spanAt b i ≤ n
@@ -105,12 +110,7 @@ pub record Whole (b : List ℕ) (n i : ℕ) (t : Tree) : Type 0 where
 module _ (b : List ℕ) (n : ℕ) (right : (i : ℕ) → i < n → T (shapeRight b n i)) where
   place : (s : Children) (r : Kind) (f i : ℕ) → i < n → n ≤ suc f + i → r .children ≡ s → Makes (markable b) (markable b i) s r → T (spanFits s b n i) →
       ((j : ℕ) → j < n → n ≤ f + j → Whole b n j (treeAt f b j)) →
-      Whole b n i (elim s [
-        | leaf ↦ r .make i (nameAt b i) (numberAt b i) (nop i) (nop i)
-        | one ↦ r .make i (nameAt b i) (numberAt b i) (treeAt f b (i + 1)) (nop i)
-        | two ↦ r .make i (nameAt b i) (numberAt b i) (treeAt f b (i + 1)) (treeAt f b (secondAt b i))
-        | wrong ↦ nop i
-      ])
+      Whole b n i (nodeOver (treeAt f b) b i r s)
   place leaf r f i l m e k s again =
       let x : spanAt b i ≡ 1 = eqb→eq (spanAt b i) 1 s in
       record { made = rw x (k i (nameAt b i) (numberAt b i) refl); fits = omega arith }
@@ -139,27 +139,16 @@ module _ (b : List ℕ) (n : ℕ) (right : (i : ℕ) → i < n → T (shapeRight
   -- the fuel does not matter where there is enough
   same-at : (s : Children) (r : Kind) (f g i : ℕ) → i < n → n ≤ suc f + i → n ≤ suc g + i → T (spanFits s b n i) →
       ((j : ℕ) → j < n → n ≤ f + j → n ≤ g + j → treeAt f b j ≡ treeAt g b j) →
-      _≡_ {A = Tree} (elim s [
-        | leaf ↦ r .make i (nameAt b i) (numberAt b i) (nop i) (nop i)
-        | one ↦ r .make i (nameAt b i) (numberAt b i) (treeAt f b (i + 1)) (nop i)
-        | two ↦ r .make i (nameAt b i) (numberAt b i) (treeAt f b (i + 1)) (treeAt f b (secondAt b i))
-        | wrong ↦ nop i
-      ])
-      (elim s [
-        | leaf ↦ r .make i (nameAt b i) (numberAt b i) (nop i) (nop i)
-        | one ↦ r .make i (nameAt b i) (numberAt b i) (treeAt g b (i + 1)) (nop i)
-        | two ↦ r .make i (nameAt b i) (numberAt b i) (treeAt g b (i + 1)) (treeAt g b (secondAt b i))
-        | wrong ↦ nop i
-      ])
+      nodeOver (treeAt f b) b i r s ≡ nodeOver (treeAt g b) b i r s
   same-at leaf r f g i l m k s again = refl
   same-at one r f g i l m k s again =
       let x : i + 1 < n = ltb→lt (i + 1) n (both-left (ltb (i + 1) n) (eqb (spanAt b i) (1 + spanAt b (i + 1))) s) in
-      rw (again (i + 1) x (omega arith) (omega arith))
+      ap (λ (p : Tree). r .make i (nameAt b i) (numberAt b i) p (nop i)) (again (i + 1) x (omega arith) (omega arith))
   same-at two r f g i l m k s again =
       let x0 = both-left (ltb (i + 1) n && ltb (secondAt b i) n) (eqb (spanAt b i) (1 + spanAt b (i + 1) + spanAt b (secondAt b i))) s in
       let x : i + 1 < n = ltb→lt (i + 1) n (both-left (ltb (i + 1) n) (ltb (secondAt b i) n) x0) in
       let z : secondAt b i < n = ltb→lt (secondAt b i) n (both-right (ltb (i + 1) n) (ltb (secondAt b i) n) x0) in
-      rw (again (i + 1) x (omega arith) (omega arith), again (secondAt b i) z (omega arith) (omega arith))
+      ap₂ (λ (p q : Tree). r .make i (nameAt b i) (numberAt b i) p q) (again (i + 1) x (omega arith) (omega arith)) (again (secondAt b i) z (omega arith) (omega arith))
   same-at wrong r f g i l m k s again = refl
 
   pub tree-fuel : (f g i : ℕ) → i < n → n ≤ f + i → n ≤ g + i → treeAt f b i ≡ treeAt g b i
@@ -173,8 +162,7 @@ module _ (b : List ℕ) (n : ℕ) (right : (i : ℕ) → i < n → T (shapeRight
 
 module _ (f : ℕ → Bool) (j : ℕ) where
   only : (i : ℕ) → T (f i) → T (member j (i ∷ [])) → T (f j)
-  unfolding member
-  only i h t = or-cases (eqb j i) false (λ x. subst (λ k. T (f k)) (sym (eqb→eq j i x)) h) (λ x. absurd x) t
+  only i h t = subst (λ k. T (f k)) (sym (member-one j i t)) h
 
   whole-waiting : (t : Tree) → Program t → Waiting f t → T (member j (waits t)) → T (f j)
   unfolding Program Waiting waits

@@ -1,4 +1,4 @@
--- Tests as types: what an and, an or, a choice or an empty list says of its parts.
+-- Tests as types: what an and, an or, a choice or an empty list says of its parts; and pairs that are written row by row.
 use mathlib.Core.Path.{_≡_, refl}
 use mathlib.Core.Bool.{Bool, true, false, not, _&&_, _||_}
 use mathlib.Core.List.{List, [], _∷_, _++_}
@@ -15,6 +15,11 @@ clash e = absurd (go e)
   where
     go : _≡_ {A = ℕ} 0 1 → ⊥
     go e = omega arith
+
+-- a row and those after it
+infixr 5 _also_
+abbrev pub _also_ : {A B : Type 0} → A → B → A × B
+a also b = (a, b)
 
 pub or-left : (a b : Bool) → T a → T (a || b)
 or-left true b t = tt
@@ -81,6 +86,7 @@ pub and-false : (a b : Bool) → (a && b) ≡ false → a ≡ true → b ≡ fal
 and-false true b e h = e
 and-false false b e h = cc
 
+-- a number where a test holds, else 0
 pub when-mono : (a b : Bool) (x : ℕ) → (T a → T b) → (if a then x else 0) ≤ (if b then x else 0)
 when-mono true true x f = omega arith
 when-mono true false x f = absurd (f tt)

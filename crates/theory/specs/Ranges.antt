@@ -5,23 +5,24 @@ use Prim.Native.Nat.{ℕ, zero, suc, _+_, _≤_, _<_}
 use native.Mathlib.Omega.{arith}
 use lib.Dec.{eqb, leb, ltb, T, leb→le, ltb→lt}
 use lib.IntN.{ℤ, pos}
+use Rattle.rules.specs.Limits.{mostName}
 use Rattle.rules.specs.Tree.{Act, Tree, act, assign, atLoop, atPar, await, break, canrun, compare, copy, divide, emit, every, fin, ifvar, increase, loop, nop, output, par, seq, subtract}
 use Rattle.rules.specs.Table.{Children, Kind, Range, anything, inKindsTable, inRange, kindAt, kinds, leaf, nameAt, nought, numberAt, one, oneTo63, over19, rowAt, secondAt, shapeRight, spanAt, spanFits, treeAt, two, upTo63, wrong}
-use Rattle.theory.specs.Logic.{both-left, both-right}
-use Rattle.theory.specs.Decode.{AllK, at}
+use Rattle.theory.specs.Logic.{both-left, both-right, _also_}
+use Rattle.theory.specs.Decode.{AllK, at, nodeOver}
 
--- what the kinds table allows: of a kind 1 to 7 its name and number, of an event, an emit, a test
-abbrev pub numberOf : Act → Range
-numberOf assign = anything
-numberOf increase = anything
-numberOf copy = upTo63
-numberOf subtract = upTo63
-numberOf compare = upTo63
-numberOf divide = upTo63
-numberOf output = upTo63
+-- what the kinds table allows: the number of a kind 1 to 7; then a name with its number, an event, an emit, a test
+abbrev pub actRange : Act → Range
+actRange assign = anything
+actRange increase = anything
+actRange copy = upTo63
+actRange subtract = upTo63
+actRange compare = upTo63
+actRange divide = upTo63
+actRange output = upTo63
 
 abbrev pub RightAct : Act → ℕ → ℤ → Type 0
-RightAct a v k = T (inRange oneTo63 (pos v)) × T (inRange (numberOf a) k)
+RightAct a v k = T (inRange oneTo63 (pos v)) × T (inRange (actRange a) k)
 
 abbrev pub RightEvent : ℕ → Type 0
 RightEvent e = T (inRange oneTo63 (pos e))
@@ -50,15 +51,11 @@ Ranged (atLoop i p q) = Unit {0}
 Ranged (atPar i o p q) = Unit {0}
 
 pub from-one : (e : ℕ) → RightEvent e → 1 ≤ e
-from-one e t = leb→le 1 e (both-left (leb 1 e) (leb e 63) t)
+from-one e t = leb→le 1 e (both-left (leb 1 e) (leb e mostName) t)
 
 -- a kind makes of parts in range a tree in range
 abbrev Keeps : ℕ → Kind → Type 0
 Keeps k r = (i v : ℕ) (z : ℤ) (p q : Tree) → T (inRange (r .name) (pos v)) → T (inRange (r .number) z) → Ranged p → Ranged q → Ranged (r .make i v z p q)
-
-infixr 5 _also_
-_also_ : {A B : Type 0} → A → B → A × B
-a also b = (a, b)
 
 all-ranged : AllK Keeps kinds
 unfolding Ranged
@@ -91,12 +88,7 @@ row-ranged b i = at Keeps over19 (λ k i v z p q t s x y. tt) kinds all-ranged (
 
 module _ (b : List ℕ) (n : ℕ) (shaped : (i : ℕ) → i < n → T (shapeRight b n i)) (ranged : (i : ℕ) → i < n → T (inKindsTable b i)) where
   place : (s : Children) (r : Kind) (f i : ℕ) → i < n → n ≤ suc f + i → Keeps (kindAt b i) r → T (inRange (r .name) (pos (nameAt b i))) → T (inRange (r .number) (numberAt b i)) → T (spanFits s b n i) → ((j : ℕ) → j < n → n ≤ f + j → Ranged (treeAt f b j)) →
-      Ranged (elim s [
-        | leaf ↦ r .make i (nameAt b i) (numberAt b i) (nop i) (nop i)
-        | one ↦ r .make i (nameAt b i) (numberAt b i) (treeAt f b (i + 1)) (nop i)
-        | two ↦ r .make i (nameAt b i) (numberAt b i) (treeAt f b (i + 1)) (treeAt f b (secondAt b i))
-        | wrong ↦ nop i
-      ])
+      Ranged (nodeOver (treeAt f b) b i r s)
   unfolding Ranged
   place leaf r f i l m k t y s again = k i (nameAt b i) (numberAt b i) (nop i) (nop i) t y tt tt
   place one r f i l m k t y s again =

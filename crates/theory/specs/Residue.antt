@@ -1,4 +1,5 @@
 -- What is left of a program while it runs: every step and every event leaves what is left of the same program.
+use mathlib.Core.Path.{_≡_, refl, sym, ap, subst}
 use mathlib.Core.Bool.{Bool, true, false}
 use Prim.Native.Nat.{ℕ}
 use lib.Dec.{eqb, T}
@@ -32,12 +33,12 @@ pub data Left : Tree → Tree → Type 0 where
 -- of a nested step that may be none
 abbrev pub LeftO : Tree → Nested → Type 0
 LeftO t stuck = Unit {0}
-LeftO t (moved e r) = Left t r
+LeftO t (moved w r) = Left t r
 
 -- ---- calm trees stay calm
 abbrev CalmO : Nested → Type 0
 CalmO stuck = Unit {0}
-CalmO (moved e r) = Calm r
+CalmO (moved w r) = Calm r
 
 abbrev notBroken : Front → Bool
 notBroken done = true
@@ -70,7 +71,7 @@ unfolding Calm seqStep inPart
 calm-seq i q done r c b h = c
 calm-seq i q (broken k) r c b h = absurd b
 calm-seq i q going stuck c b h = tt
-calm-seq i q going (moved e p) c b h = (h, c)
+calm-seq i q going (moved w p) c b h = (h, c)
 
 calm-step : (n : ℕ) (x : Memory) (t : Tree) → Calm t → CalmO (nestedStep n x t)
 unfolding Calm nestedStep
@@ -106,49 +107,53 @@ calm-open n (canrun i m) c b = c
 calm-open n (atLoop i p q) c b = c
 calm-open n (atPar i o p q) c b = c
 
-calm-awake : (w : ℕ → Source → ℕ → Bool) (t : Tree) → Calm t → Calm (awake w t)
+-- a calm tree hears nothing
+pub calm-same : (w : ℕ → Source → ℕ → Bool) (t : Tree) → Calm t → awake w t ≡ t
 unfolding Calm awake
-calm-awake w (nop i) c = tt
-calm-awake w (act i a v k) c = tt
-calm-awake w (await i s′ e′) c = absurd c
-calm-awake w (emit i e′ y) c = absurd c
-calm-awake w (break i) c = absurd c
-calm-awake w (ifvar i v p q) c = c
-calm-awake w (seq i p q) c = (calm-awake w p (c .0), c .1)
-calm-awake w (loop i p) c = absurd c
-calm-awake w (every i s′ e′ p) c = absurd c
-calm-awake w (par i o p q) c = absurd c
-calm-awake w (fin i p) c = absurd c
-calm-awake w (canrun i m) c = absurd c
-calm-awake w (atLoop i p q) c = absurd c
-calm-awake w (atPar i o p q) c = absurd c
+calm-same w (nop i) c = refl
+calm-same w (act i a v k) c = refl
+calm-same w (await i s e) c = absurd c
+calm-same w (emit i e y) c = refl
+calm-same w (break i) c = refl
+calm-same w (ifvar i v p q) c = refl
+calm-same w (seq i p q) c = ap (λ (r : Tree). seq i r q) (calm-same w p (c .0))
+calm-same w (loop i p) c = refl
+calm-same w (every i s e p) c = absurd c
+calm-same w (par i o p q) c = refl
+calm-same w (fin i p) c = refl
+calm-same w (canrun i m) c = refl
+calm-same w (atLoop i p q) c = absurd c
+calm-same w (atPar i o p q) c = absurd c
+
+calm-awake : (w : ℕ → Source → ℕ → Bool) (t : Tree) → Calm t → Calm (awake w t)
+calm-awake w t c = subst Calm (sym (calm-same w t c)) c
 
 -- ---- a step leaves what is left of the same program
 
 tidy-step : (t : Tree) (r : Nested) → CalmO r → LeftO t r
 tidy-step t stuck h = tt
-tidy-step t (moved e c) h = tidy h
+tidy-step t (moved w c) h = tidy h
 
 leaving-step : (t : Tree) (i b : ℕ) (f : Front) (r : Nested) → CalmO r → LeftO t (seqStep i f (break b) r)
 unfolding seqStep inPart
 leaving-step t i b done r h = breaking
 leaving-step t i b (broken k) r h = breaking
 leaving-step t i b going stuck h = tt
-leaving-step t i b going (moved e c) h = leaving h
+leaving-step t i b going (moved w c) h = leaving h
 
 seqL-step : (i : ℕ) (p q : Tree) (f : Front) (r : Nested) → LeftO p r → LeftO (seq i p q) (seqStep i f q r)
 unfolding seqStep inPart
 seqL-step i p q done r h = seqR whole
 seqL-step i p q (broken b) r h = breaking
 seqL-step i p q going stuck h = tt
-seqL-step i p q going (moved e u) h = seqL h
+seqL-step i p q going (moved w u) h = seqL h
 
 loopIn-step : (i : ℕ) (p : Tree) (f : Front) (r : Nested) → LeftO p r → LeftO (loop i p) (loopStep i f p r)
 unfolding loopStep inPart Calm
 loopIn-step i p done r h = whole
 loopIn-step i p (broken b) r h = tidy tt
 loopIn-step i p going stuck h = tt
-loopIn-step i p going (moved e u) h = loopIn h
+loopIn-step i p going (moved w u) h = loopIn h
 
 keepL : (i : ℕ) (o : Par) (p q r : Tree) → Good r → Left p r → Left (par i o p q) (otherSide o r)
 keepL i and p q r g h = parL h
@@ -163,14 +168,14 @@ unfolding rightStep inPart
 right-step i o p q r u g h done s k = keepL i o p q r g h
 right-step i o p q r u g h (broken b) s k = leaving (clear-calm r g)
 right-step i o p q r u g h going stuck k = tt
-right-step i o p q r u g h going (moved e v) k = parBoth h k
+right-step i o p q r u g h going (moved w v) k = parBoth h k
 
 par-step : (i : ℕ) (o : Par) (p q r u : Tree) → Good r → Good u → Left p r → Left q u → (f : Front) (b : Bool) (s s′ : Nested) → LeftO p s → LeftO q s′ → LeftO (par i o p q) (parStep i o r u f b s s′)
 unfolding parStep inPart
 par-step i o p q r u g g′ h h′ done b s s′ k k′ = keepR i o p q u g′ h′
 par-step i o p q r u g g′ h h′ (broken c) b s s′ k k′ = leaving (clear-calm u g′)
 par-step i o p q r u g g′ h h′ going false stuck s′ k k′ = tt
-par-step i o p q r u g g′ h h′ going false (moved e v) s′ k k′ = parBoth k h′
+par-step i o p q r u g g′ h h′ going false (moved w v) s′ k k′ = parBoth k h′
 par-step i o p q r u g g′ h h′ going true s s′ k k′ = right-step i o p q r u g h (front u) s′ k′
 
 choice-left : (b : Bool) (i v : ℕ) (p q : Tree) → Left (ifvar i v p q) (if b then q else p)
@@ -179,7 +184,7 @@ choice-left false i v p q = ifL whole
 
 up-step : (t u : Tree) → ((r : Tree) → Left t r → Left u r) → (s : Nested) → LeftO t s → LeftO u s
 up-step t u f stuck h = tt
-up-step t u f (moved e r) h = f r h
+up-step t u f (moved w r) h = f r h
 
 resume-step : (t : Tree) (j : ℕ) (b : Bool) → CalmO (if b then moved quiet (nop j) else stuck)
 unfolding Calm
@@ -214,7 +219,7 @@ unfolding seqStep inPart
 every-step i j e s p done r h = whole
 every-step i j e s p (broken b) r h = breaking
 every-step i j e s p going stuck h = tt
-every-step i j e s p going (moved x c) h = everyOn h
+every-step i j e s p going (moved w c) h = everyOn h
 
 pub left-step : (n : ℕ) (x : Memory) {t r : Tree} → Left t r → Program t → Good r → LeftO t (nestedStep n x r)
 unfolding nestedStep Program Good front
@@ -251,13 +256,13 @@ whole-awake : (w : ℕ → Source → ℕ → Bool) (t : Tree) → Program t →
 unfolding awake Program Good
 whole-awake w (nop i) h g = whole
 whole-awake w (act i a v k) h g = whole
-whole-awake w (await i s′ e′) h g = await-left i e′ s′ (w i s′ e′)
-whole-awake w (emit i e′ y) h g = whole
+whole-awake w (await i s e) h g = await-left i e s (w i s e)
+whole-awake w (emit i e y) h g = whole
 whole-awake w (break i) h g = whole
 whole-awake w (ifvar i v p q) h g = whole
 whole-awake w (seq i p q) h g = seqL (whole-awake w p (h .0) (g .0))
 whole-awake w (loop i p) h g = whole
-whole-awake w (every i s′ e′ p) h g = every-left i e′ s′ p (w i s′ e′) g
+whole-awake w (every i s e p) h g = every-left i e s p (w i s e) g
 whole-awake w (par i o p q) h g = whole
 whole-awake w (fin i p) h g = whole
 whole-awake w (canrun i m) h g = absurd h
