@@ -2,10 +2,10 @@
 -- Assumes nothing.
 use mathlib.Core.Path.{_≡_, refl, sym, ap, _∙_}
 use mathlib.Core.List.{List, _++_, append-nil}
-use Prim.Native.Nat.{ℕ, suc, _+_, _≤_, _<_}
+use Prim.Native.Nat.{ℕ, suc, _+_, _<_}
 use native.Mathlib.Numerals.{add-one}
 use native.Mathlib.Omega.{arith}
-use lib.ListN.{length, take, drop, getD, set, length-append, length-drop}
+use lib.ListN.{length, take, drop, getD, set}
 use lib.Seq.{append-snoc, drop-cons, drop-length, length-take-le, set-at, take-all, take-suc}
 
 module _ {A : Type 0} where
@@ -21,9 +21,6 @@ module _ {A : Type 0} where
       ∙ set-at (take i s) (getD d i z) (drop (suc i) d) (getD s i z) i (length-take-le i s (omega arith))
       ∙ sym (append-snoc (take i s) (getD s i z) (drop (suc i) d))
       ∙ ap (λ (r : List A). r ++ drop (suc i) d) (sym (take-suc s i z p)))
-
-  pub copied-length : (s d : List A) (i : ℕ) {l : List A} → i ≤ length s → i ≤ length d → l ≡ copied i s d → length l ≡ length d
-  copied-length s d i p q e = ap length e ∙ omega (arith, length-append (take i s) (drop i d), length-take-le i s p, length-drop i d)
 
   -- all of s, over what is as long
   pub copied-all : (s d : List A) (i : ℕ) {l : List A} → i ≡ length s → length d ≡ length s → l ≡ copied i s d → l ≡ s

@@ -12,11 +12,11 @@ use lib.ListN.{length}
 use Rattle.rules.specs.Stages.{Refusal, firstRefusal, if_then_else_, option, refusal}
 use Rattle.rules.specs.Limits.{recordBytes, topTotal}
 use Rattle.rules.specs.Check.{announced}
-use Rattle.rules.specs.Run.{reaction, start}
-use Rattle.rules.specs.Calls.{Outcome, Sent, Taken, Totals, answers, countReaction, joinRun, noneTaken, reactCall, refuse, startCall, takeEvent}
+use Rattle.rules.specs.Run.{reaction}
+use Rattle.rules.specs.Calls.{Outcome, Sent, Taken, Totals, answers, countReaction, noneTaken, reactCall, refuse, takeEvent}
 use Rattle.rules.specs.Lists.{listCall, sentFrom, takeEvents}
-use Rattle.calls.specs.Answers.{addTotals, counting, lent, lentOf, noTotals, withTotals}
-use Rattle.calls.specs.Stages.{reactStages, runStages, startStages}
+use Rattle.calls.specs.Answers.{addTotals, counting, lent, lentOf, withTotals}
+use Rattle.calls.specs.Stages.{reactStages, runStages}
 
 same-totals : {r s r′ s′ : ℕ} → r ≡ r′ → s ≡ s′ → _≡_ {A = Totals} (record { reactions = r; steps = s }) (record { reactions = r′; steps = s′ })
 same-totals p q = rw (p, q)
@@ -29,19 +29,6 @@ one-more : (t : Totals) (r s n : ℕ) → countReaction n (addTotals t r s) ≡ 
 one-more t r s n = same-totals (omega arith) (omega arith)
 
 module _ (m : List ℕ) (v : List ℤ) (o : List ℕ) (t : Totals) where
-  -- ---- a start is not counted
-
-  start-go : (b : List ℕ) (f : Option Refusal) →
-      option (answers (lentOf m v o t) none (joinRun b t (start b v) (noneTaken (lentOf m v o t)))) (refuse (lentOf m v o t)) f
-      ≡ withTotals t (option (answers (lent m v o) none (joinRun b noTotals (start b v) (noneTaken (lent m v o)))) (refuse (lent m v o)) f)
-  unfolding answers
-  start-go b none = refl
-  start-go b (some r) = refl
-
-  pub start-any : (b : List ℕ) → startCall b (lentOf m v o t) ≡ withTotals t (startCall b (lent m v o))
-  unfolding startCall
-  start-any b = start-go b (firstRefusal (startStages b m v o))
-
   -- ---- events taken
 
   abbrev with : Totals → Taken → Taken

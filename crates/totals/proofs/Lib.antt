@@ -1,5 +1,4 @@
--- Laws of the running totals, and what walks by hand share.
-pub mod Laws
+-- What walks by hand share.
 pub mod Walk
 pub mod Chain
 pub mod Straight

@@ -1,14 +1,14 @@
 -- `store_vars` copies the variables back: the loop has copied the first i.
 -- Assumes nothing.
-use mathlib.Core.Path.{_≡_, refl, ap, sym, _∙_}
+use mathlib.Core.Path.{_≡_, refl, _∙_}
 use Prim.Native.Nat.{_≤_, _-_}
 use native.Mathlib.Omega.{arith}
 use lib.IntN.{pos}
 use lib.ListN.{length, length-set}
-use borrow.Author.Needs.{needs, sfits-of}
+use borrow.Author.Needs.{sfits-of}
 use mir.Syntax.{w32}
 use mir.Facts.{toZ-ofZ}
-use Rattle.calls.proofs.Copying.{copied, copied-none, copied-more, copied-all, copied-length}
+use Rattle.calls.proofs.Copying.{copied, copied-none, copied-more, copied-all}
 use Rattle.calls.proofs.hold.store_vars.Statement.{statement}
 use Rattle.calls.proofs.hold.store_vars.Tie as tie
 use Rattle.calls.proofs.hold.store_vars.Reads as reads
