@@ -1,4 +1,5 @@
 -- What a covered function returned, at its machine value: what its fields are and fit.
+-- Assumes nothing.
 use mathlib.Core.List.{[], _∷_}
 use Prim.Native.Nat.{_<_, _^_}
 use mir.Val.{Val}

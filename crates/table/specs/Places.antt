@@ -14,6 +14,7 @@ bitsAt b i = byteAt b i 4 + 256 * byteAt b i 5 + 256 * 256 * byteAt b i 6 + 256 
 abbrev pub Shape : List ℕ → Type 0
 Shape b = (j : ℕ) → j < recordsOf b → T (shapeRight b (recordsOf b) j)
 
+-- a place of such a table
 pub record Place (b : List ℕ) (i : ℕ) : Type 0 where
   pub shape : Shape b
   pub inside : i < recordsOf b

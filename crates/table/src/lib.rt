@@ -1,6 +1,7 @@
 // What a record of a table says. Each function asks for a place inside the table.
 ghost use mathlib.Core.Path.{_≡_};
 ghost use Prim.Native.Nat.{_+_, _<_, _≤_};
+ghost use Rattle.rules.specs.Limits.{recordBytes};
 ghost use Rattle.rules.specs.Table.{byteAt, kindAt, nameAt, spanAt, numberAt, secondAt, recordsOf};
 ghost use Rattle.table.specs.Kinds.{childrenOf};
 ghost use Rattle.table.specs.Places.{bitsAt};
@@ -21,7 +22,7 @@ fn wide(x: u8) -> usize
 
 // Byte k of the record at place i.
 fn byte_at(table: &[u8], i: usize, k: usize) -> usize
-    requires { ⌜ (i < recordsOf (now table)) × (k < 8) ⌝ }
+    requires { ⌜ (i < recordsOf (now table)) × (k < recordBytes) ⌝ }
     ensures { λ r. ⌜ (r ≡ byteAt (now (table .entry)) i k) × (r < 256) ⌝ }
 {
     wide(table[Limits::RECORD_BYTES * i + k])

@@ -25,6 +25,7 @@ pub data Fate : Type 0 where
   ends breaks waits amiss : Fate
   rings : ℕ → Fate
 
+-- with the tree, the memory and the steps of the run
 pub record Out : Type 0 where
   pub fate : Fate
   pub tree : Tree
@@ -40,6 +41,7 @@ later j o = record { fate = o .fate; tree = o .tree; mem = o .mem; steps = j + o
 
 -- ---- a calm tree runs to its end
 
+-- the place of the @nop that is left, the memory and the steps
 pub record Calmed : Type 0 where
   pub at : ℕ
   pub mem : Memory
@@ -139,6 +141,7 @@ resume n (atPar i o p q) m = parF i o (resume n p m .fate) (resume n p m) q (res
 
 -- ---- the same by the rules
 
+-- so many nested steps at level n, none of which emits
 pub data Chain (n : ℕ) : Tree → Memory → Tree → Memory → ℕ → Type 0 where
   c-done : {t : Tree} {m : Memory} → Chain n t m t m 0
   c-step : {t t′ t″ : Tree} {m m″ : Memory} {w : Deed} {i j : ℕ} → Goes n m t w t′ → raised w ≡ none → Chain n t′ (effect w m) t″ m″ j → i ≡ suc j → Chain n t m t″ m″ i
@@ -266,6 +269,7 @@ pub record Rung (n e : ℕ) (t : Tree) (m : Memory) (t′ : Tree) (m′ : Memory
   pub memory : m′ ≡ effect (raises e number) mem
   pub count : j ≡ before + 1
 
+-- the run from t and m ends so, by the rules
 abbrev pub Meets : ℕ → Tree → Memory → Fate → Tree → Memory → ℕ → Type 0
 Meets n t m ends t′ m′ j = Chain n t m t′ m′ j × Over t′
 Meets n t m breaks t′ m′ j = Chain n t m t′ m′ j × Fallen t′

@@ -121,7 +121,7 @@ module _ (l : List ℕ) (i x : ℕ) where
   pub set-apart : {t : Tree} → (At t i → ⊥) → Same t l (set l i x)
   set-apart {t} n = record { same-at = λ j h. getD-set-other l i j x 0 (λ e. n (rw e at h)) }
 
--- ---- nodes
+-- ---- nodes: without parts, with one, with two; the span and where the parts stand
 
 pub record Leaf (t : Tree) (i : ℕ) : Type 0 where
   pub own-place : placeOf t ≡ i
@@ -220,6 +220,7 @@ Laid (canrun i m) = ⊥
 Laid (atLoop i p q) = ⊥
 Laid (atPar i o p q) = ⊥
 
+-- all that stands above, of a program whose first place is k
 pub record Lays (k : ℕ) (t : Tree) : Type 0 where
   pub place-is : placeOf t ≡ k
   pub laid : Laid t

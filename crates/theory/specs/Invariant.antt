@@ -21,6 +21,7 @@ use Rattle.theory.specs.Residue.{Left, LeftO, left-step, left-awake}
 use Rattle.theory.specs.Blocked.{blocked-stuck}
 use Rattle.theory.specs.Progress.{Live, LiveO, live-step, live-awake, live-pop, live-zero, blocked-low, moves, Moves}
 
+-- 1 where an event is pending
 unfoldable pub pendingCount : Option Event → ℕ
 pendingCount none = 0
 pendingCount (some v) = 1
@@ -35,6 +36,7 @@ unfolding loose
 every-loose i e s p true c t = or-cases (loose p) false (calm-loose p c) (λ x. x) t
 every-loose i e s p false c t = t
 
+-- an event lets no new loose break appear
 awake-loose : (w : ℕ → Source → ℕ → Bool) (t : Tree) → Good t → T (loose (awake w t)) → T (loose t)
 unfolding awake loose Good
 awake-loose w (nop i) g h = h
@@ -52,6 +54,7 @@ awake-loose w (canrun i m) g h = h
 awake-loose w (atLoop i p q) g h = h
 awake-loose w (atPar i o p q) g h = or-map (loose (awake w p)) (loose (awake w q)) (loose p) (loose q) (awake-loose w p (g .0)) (awake-loose w q (g .1)) h
 
+-- a tree that is @nop is live at every level, and has no step
 done-live : (n : ℕ) (t : Tree) → T (isDone (front t)) → Live n t
 unfolding front Live
 done-live n (nop i) h = tt

@@ -26,6 +26,7 @@ spots (canrun i k) = []
 spots (atLoop i p q) = []
 spots (atPar i o p q) = []
 
+-- those of a list of places that are marked
 unfoldable pub kept : List ℕ → List ℕ → List ℕ
 kept m [] = []
 kept m (i ∷ is) = if marked m i then i ∷ kept m is else kept m is

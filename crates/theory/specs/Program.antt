@@ -239,84 +239,84 @@ broken-loose t b e = go (seen t) e
 unfoldable pub emitCount : Tree → ℕ
 emitCount (nop i) = 0
 emitCount (act i a v k) = 0
-emitCount (await i c b) = 0
-emitCount (emit i b y) = 1
+emitCount (await i s e) = 0
+emitCount (emit i e y) = 1
 emitCount (break i) = 0
 emitCount (ifvar i v p q) = emitCount p + emitCount q
 emitCount (seq i p q) = emitCount p + emitCount q
 emitCount (loop i p) = emitCount p
-emitCount (every i c b p) = emitCount p
-emitCount (par i j p q) = emitCount p + emitCount q
+emitCount (every i s e p) = emitCount p
+emitCount (par i o p q) = emitCount p + emitCount q
 emitCount (fin i p) = emitCount p
 emitCount (canrun i m) = 0
 emitCount (atLoop i p q) = 0
-emitCount (atPar i j p q) = 0
+emitCount (atPar i o p q) = 0
 
 -- deepest loop nesting (D)
 unfoldable pub loopDepth : Tree → ℕ
 loopDepth (nop i) = 0
 loopDepth (act i a v k) = 0
-loopDepth (await i c b) = 0
-loopDepth (emit i b y) = 0
+loopDepth (await i s e) = 0
+loopDepth (emit i e y) = 0
 loopDepth (break i) = 0
 loopDepth (ifvar i v p q) = max (loopDepth p) (loopDepth q)
 loopDepth (seq i p q) = max (loopDepth p) (loopDepth q)
 loopDepth (loop i p) = suc (loopDepth p)
-loopDepth (every i c b p) = loopDepth p
-loopDepth (par i j p q) = max (loopDepth p) (loopDepth q)
+loopDepth (every i s e p) = loopDepth p
+loopDepth (par i o p q) = max (loopDepth p) (loopDepth q)
 loopDepth (fin i p) = loopDepth p
 loopDepth (canrun i m) = 0
 loopDepth (atLoop i p q) = 0
-loopDepth (atPar i j p q) = 0
+loopDepth (atPar i o p q) = 0
 
 -- the kinds of a program only
 unfoldable pub Program : Tree → Type 0
 Program (nop i) = Unit {0}
 Program (act i a v k) = Unit {0}
-Program (await i c b) = Unit {0}
-Program (emit i b y) = Unit {0}
+Program (await i s e) = Unit {0}
+Program (emit i e y) = Unit {0}
 Program (break i) = Unit {0}
 Program (ifvar i v p q) = Program p × Program q
 Program (seq i p q) = Program p × Program q
 Program (loop i p) = Program p
-Program (every i c b p) = Program p
-Program (par i j p q) = Program p × Program q
+Program (every i s e p) = Program p
+Program (par i o p q) = Program p × Program q
 Program (fin i p) = Program p
 Program (canrun i m) = ⊥
 Program (atLoop i p q) = ⊥
-Program (atPar i j p q) = ⊥
+Program (atPar i o p q) = ⊥
 
 -- outputs outside an every (P)
 unfoldable pub outputsOutside : Tree → ℕ
 outputsOutside (nop i) = 0
 outputsOutside (act i a v k) = isOut a
-outputsOutside (await i c b) = 0
-outputsOutside (emit i b y) = 0
+outputsOutside (await i s e) = 0
+outputsOutside (emit i e y) = 0
 outputsOutside (break i) = 0
 outputsOutside (ifvar i v p q) = outputsOutside p + outputsOutside q
 outputsOutside (seq i p q) = outputsOutside p + outputsOutside q
 outputsOutside (loop i p) = outputsOutside p
-outputsOutside (every i c b p) = 0
-outputsOutside (par i j p q) = outputsOutside p + outputsOutside q
+outputsOutside (every i s e p) = 0
+outputsOutside (par i o p q) = outputsOutside p + outputsOutside q
 outputsOutside (fin i p) = outputsOutside p
 outputsOutside (canrun i m) = 0
 outputsOutside (atLoop i p q) = 0
-outputsOutside (atPar i j p q) = 0
+outputsOutside (atPar i o p q) = 0
 
 -- outputs inside an every (Q)
 unfoldable pub outputsInside : Tree → ℕ
 unfolding outputsOutside
 outputsInside (nop i) = 0
 outputsInside (act i a v k) = 0
-outputsInside (await i c b) = 0
-outputsInside (emit i b y) = 0
+outputsInside (await i s e) = 0
+outputsInside (emit i e y) = 0
 outputsInside (break i) = 0
 outputsInside (ifvar i v p q) = outputsInside p + outputsInside q
 outputsInside (seq i p q) = outputsInside p + outputsInside q
 outputsInside (loop i p) = outputsInside p
-outputsInside (every i c b p) = outputsOutside p
-outputsInside (par i j p q) = outputsInside p + outputsInside q
+outputsInside (every i s e p) = outputsOutside p
+outputsInside (par i o p q) = outputsInside p + outputsInside q
 outputsInside (fin i p) = outputsInside p
 outputsInside (canrun i m) = 0
 outputsInside (atLoop i p q) = 0
-outputsInside (atPar i j p q) = 0
+outputsInside (atPar i o p q) = 0

@@ -42,6 +42,7 @@ module _ (s e o : ℕ) where
   program-full (atLoop i p q) h = absurd h
   program-full (atPar i j p q) h = absurd h
 
+  -- the body of an every costs one step a record
   calm-cost : (t : Tree) → Calm t → treeCost s e o t ≤ s * spanOf t + o * outputsOutside t
   unfolding Calm treeCost spanOf outputsOutside
   calm-cost (nop i) c = omega arith

@@ -73,35 +73,35 @@ clear-program t g = calm-program (clear t) (clear-calm t g)
 
 abbrev pub Moves : Nested → Type 0
 Moves stuck = ⊥
-Moves (moved e t) = Unit {0}
+Moves (moved w t) = Unit {0}
 
 seq-moves : (i : ℕ) (q : Tree) (f : Front) (r : Nested) → (f ≡ going → Moves r) → Moves (seqStep i f q r)
 unfolding seqStep inPart
 seq-moves i q done r h = tt
 seq-moves i q (broken b) r h = tt
 seq-moves i q going stuck h = h refl
-seq-moves i q going (moved e t) h = tt
+seq-moves i q going (moved w t) h = tt
 
 loop-moves : (i : ℕ) (q : Tree) (f : Front) (r : Nested) → (f ≡ going → Moves r) → Moves (loopStep i f q r)
 unfolding loopStep inPart
 loop-moves i q done r h = tt
 loop-moves i q (broken b) r h = tt
 loop-moves i q going stuck h = h refl
-loop-moves i q going (moved e t) h = tt
+loop-moves i q going (moved w t) h = tt
 
 right-moves : (i : ℕ) (o : Par) (p : Tree) (f : Front) (r : Nested) → (f ≡ going → Moves r) → Moves (rightStep i o p f r)
 unfolding rightStep inPart
 right-moves i o p done r h = tt
 right-moves i o p (broken b) r h = tt
 right-moves i o p going stuck h = h refl
-right-moves i o p going (moved e t) h = tt
+right-moves i o p going (moved w t) h = tt
 
 par-moves : (i : ℕ) (o : Par) (p q : Tree) (f : Front) (b : Bool) (r s : Nested) → (b ≡ false → f ≡ going → Moves r) → (b ≡ true → front q ≡ going → Moves s) → Moves (parStep i o p q f b r s)
 unfolding parStep inPart
 par-moves i o p q done b r s h k = tt
 par-moves i o p q (broken c) b r s h k = tt
 par-moves i o p q going false stuck s h k = h refl refl
-par-moves i o p q going false (moved e t) s h k = tt
+par-moves i o p q going false (moved w t) s h k = tt
 par-moves i o p q going true r s h k = right-moves i o p (front q) s (k refl)
 
 canrun-moves : (i m n : ℕ) → ltb m n ≡ false → m ≤ n → Moves (if eqb m n then moved quiet (nop i) else stuck)
@@ -125,25 +125,25 @@ moves n x (atLoop i p q) l b f = loop-moves i q (front p) (nestedStep n x p) (mo
 moves n x (atPar i o p q) l b f =
     par-moves i o p q (front p) (blocked n p) (nestedStep n x p) (nestedStep n x q) (λ e. moves n x p (l .0) e) (λ e. moves n x q (l .1) (and-false (blocked n p) (blocked n q) b e))
 
--- ---- steps, events and pops keep it
+-- ---- steps, events and pops keep it; of a nested step that may be none, nothing is to be shown there
 
 abbrev pub LiveO : ℕ → Nested → Type 0
 LiveO n stuck = Unit {0}
-LiveO n (moved e t) = Live n t
+LiveO n (moved w t) = Live n t
 
 seq-live : (n i : ℕ) (q : Tree) (f : Front) (r : Nested) → Program q → LiveO n r → LiveO n (seqStep i f q r)
 unfolding seqStep inPart Live
 seq-live n i q done r h k = program-live n q h
 seq-live n i q (broken b) r h k = tt
 seq-live n i q going stuck h k = tt
-seq-live n i q going (moved e t) h k = (k, h)
+seq-live n i q going (moved w t) h k = (k, h)
 
 loop-live : (n i : ℕ) (q : Tree) (f : Front) (r : Nested) → Program q → LiveO n r → LiveO n (loopStep i f q r)
 unfolding loopStep inPart Live
 loop-live n i q done r h k = h
 loop-live n i q (broken b) r h k = tt
 loop-live n i q going stuck h k = tt
-loop-live n i q going (moved e t) h k = (k, h)
+loop-live n i q going (moved w t) h k = (k, h)
 
 keep-live : (n : ℕ) (o : Par) (t : Tree) → Live n t → Good t → Live n (otherSide o t)
 keep-live n and t l g = l
@@ -154,14 +154,14 @@ unfolding rightStep inPart Live Program
 right-live n i o p done r l g k = keep-live n o p l g
 right-live n i o p (broken b) r l g k = (program-live n (clear p) (clear-program p g), tt)
 right-live n i o p going stuck l g k = tt
-right-live n i o p going (moved e t) l g k = (l, k)
+right-live n i o p going (moved w t) l g k = (l, k)
 
 par-live : (n i : ℕ) (o : Par) (p q : Tree) (f : Front) (b : Bool) (r s : Nested) → Live n p → Live n q → Good p → Good q → LiveO n r → LiveO n s → LiveO n (parStep i o p q f b r s)
 unfolding parStep inPart Live Program
 par-live n i o p q done b r s l m g h k j = keep-live n o q m h
 par-live n i o p q (broken c) b r s l m g h k j = (program-live n (clear q) (clear-program q h), tt)
 par-live n i o p q going false stuck s l m g h k j = tt
-par-live n i o p q going false (moved e t) s l m g h k j = (k, m)
+par-live n i o p q going false (moved w t) s l m g h k j = (k, m)
 par-live n i o p q going true r s l m g h k j = right-live n i o p (front q) s l g j
 
 choice-live : (n : ℕ) (b : Bool) (p q : Tree) → Program p → Program q → Live n (if b then q else p)
@@ -204,13 +204,13 @@ pub live-awake : (n : ℕ) (w : ℕ → Source → ℕ → Bool) (t : Tree) → 
 unfolding awake Live Program
 live-awake n w (nop i) l = tt
 live-awake n w (act i b v k) l = tt
-live-awake n w (await i s′ e′) l = await-live (suc n) i e′ s′ (w i s′ e′)
-live-awake n w (emit i e′ y) l = tt
+live-awake n w (await i s e) l = await-live (suc n) i e s (w i s e)
+live-awake n w (emit i e y) l = tt
 live-awake n w (break i) l = tt
 live-awake n w (ifvar i v p q) l = l
 live-awake n w (seq i p q) l = (live-awake n w p (l .0), l .1)
 live-awake n w (loop i p) l = l
-live-awake n w (every i s′ e′ p) l = every-live (suc n) i e′ s′ p (w i s′ e′) l
+live-awake n w (every i s e p) l = every-live (suc n) i e s p (w i s e) l
 live-awake n w (par i o p q) l = l
 live-awake n w (fin i p) l = l
 live-awake n w (canrun i m) l = (l .0, omega (arith, l .1))

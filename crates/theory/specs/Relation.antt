@@ -17,61 +17,61 @@ use Rattle.theory.specs.Blocked.{blocked-going, blocked-stuck}
 -- at level n and with memory x a tree becomes another, with what this does to the memory
 pub data Goes (n : ℕ) (x : Memory) : Tree → Deed → Tree → Type 0 where
   acts : {i v : ℕ} {a : Act} {k : ℤ} → Goes n x (act i a v k) (does a v k) (nop i)
-  emits : {i b : ℕ} {y : ℤ} → Goes n x (emit i b y) (raises b y) (canrun i n)
+  emits : {i e : ℕ} {y : ℤ} → Goes n x (emit i e y) (raises e y) (canrun i n)
   resumes : {i : ℕ} → Goes n x (canrun i n) quiet (nop i)
   chooses : {i v : ℕ} {p q : Tree} → Goes n x (ifvar i v p q) quiet (if isZero (read x v) then q else p)
   -- sequence
   seq-next : {i j : ℕ} {q : Tree} → Goes n x (seq i (nop j) q) quiet q
   seq-break : {i b : ℕ} {q : Tree} → Goes n x (seq i (break b) q) quiet (break b)
-  seq-left : {i : ℕ} {p p′ q : Tree} {e : Deed} → Goes n x p e p′ → Goes n x (seq i p q) e (seq i p′ q)
+  seq-left : {i : ℕ} {p p′ q : Tree} {w : Deed} → Goes n x p w p′ → Goes n x (seq i p q) w (seq i p′ q)
   -- loop
   loop-in : {i : ℕ} {p : Tree} → Goes n x (loop i p) quiet (atLoop i p p)
   loop-again : {i j : ℕ} {q : Tree} → Goes n x (atLoop i (nop j) q) quiet (loop i q)
   loop-out : {i b : ℕ} {q : Tree} → Goes n x (atLoop i (break b) q) quiet (nop i)
-  loop-left : {i : ℕ} {p p′ q : Tree} {e : Deed} → Goes n x p e p′ → Goes n x (atLoop i p q) e (atLoop i p′ q)
+  loop-left : {i : ℕ} {p p′ q : Tree} {w : Deed} → Goes n x p w p′ → Goes n x (atLoop i p q) w (atLoop i p′ q)
   -- and, or
   par-in : {i : ℕ} {o : Par} {p q : Tree} → Goes n x (par i o p q) quiet (atPar i o p (seq i (canrun i n) q))
   par-done : {i j : ℕ} {o : Par} {q : Tree} → Goes n x (atPar i o (nop j) q) quiet (otherSide o q)
   par-break : {i b : ℕ} {o : Par} {q : Tree} → Goes n x (atPar i o (break b) q) quiet (seq i (clear q) (break b))
-  par-left : {i : ℕ} {o : Par} {p p′ q : Tree} {e : Deed} → Goes n x p e p′ → Goes n x (atPar i o p q) e (atPar i o p′ q)
+  par-left : {i : ℕ} {o : Par} {p p′ q : Tree} {w : Deed} → Goes n x p w p′ → Goes n x (atPar i o p q) w (atPar i o p′ q)
   par-done-right : {i j : ℕ} {o : Par} {p : Tree} → T (blocked n p) → Goes n x (atPar i o p (nop j)) quiet (otherSide o p)
   par-break-right : {i b : ℕ} {o : Par} {p : Tree} → T (blocked n p) → Goes n x (atPar i o p (break b)) quiet (seq i (clear p) (break b))
-  par-right : {i : ℕ} {o : Par} {p q q′ : Tree} {e : Deed} → T (blocked n p) → Goes n x q e q′ → Goes n x (atPar i o p q) e (atPar i o p q′)
+  par-right : {i : ℕ} {o : Par} {p q q′ : Tree} {w : Deed} → T (blocked n p) → Goes n x q w q′ → Goes n x (atPar i o p q) w (atPar i o p q′)
 
 -- the function's answer is a step of the relation
 abbrev pub Is : ℕ → Memory → Tree → Nested → Type 0
 Is n x t stuck = Unit {0}
-Is n x t (moved e t′) = Goes n x t e t′
+Is n x t (moved w t′) = Goes n x t w t′
 
 module _ (n : ℕ) (x : Memory) where
   seq-is : (i : ℕ) (p q : Tree) (f : Front) (r : Nested) → Seen p f → Is n x p r → Is n x (seq i p q) (seqStep i f q r)
   unfolding seqStep inPart
   seq-is i p q done r is-nop h = seq-next
   seq-is i p q (broken b) r is-brk h = seq-break
-  seq-is i p q going stuck w h = tt
-  seq-is i p q going (moved e p′) w h = seq-left h
+  seq-is i p q going stuck z h = tt
+  seq-is i p q going (moved w p′) z h = seq-left h
 
   loop-is : (i : ℕ) (p q : Tree) (f : Front) (r : Nested) → Seen p f → Is n x p r → Is n x (atLoop i p q) (loopStep i f q r)
   unfolding loopStep inPart
   loop-is i p q done r is-nop h = loop-again
   loop-is i p q (broken b) r is-brk h = loop-out
-  loop-is i p q going stuck w h = tt
-  loop-is i p q going (moved e p′) w h = loop-left h
+  loop-is i p q going stuck z h = tt
+  loop-is i p q going (moved w p′) z h = loop-left h
 
   right-is : (i : ℕ) (o : Par) (p q : Tree) (f : Front) (r : Nested) → T (blocked n p) → Seen q f → Is n x q r → Is n x (atPar i o p q) (rightStep i o p f r)
   unfolding rightStep inPart
   right-is i o p q done r b is-nop h = par-done-right b
   right-is i o p q (broken k) r b is-brk h = par-break-right b
-  right-is i o p q going stuck b w h = tt
-  right-is i o p q going (moved e q′) b w h = par-right b h
+  right-is i o p q going stuck b z h = tt
+  right-is i o p q going (moved w q′) b z h = par-right b h
 
   par-is : (i : ℕ) (o : Par) (p q : Tree) (f : Front) (c : Bool) (r r′ : Nested) → blocked n p ≡ c → Seen p f → Is n x p r → Is n x q r′ → Is n x (atPar i o p q) (parStep i o p q f c r r′)
   unfolding parStep inPart
   par-is i o p q done c r r′ b is-nop h k = par-done
   par-is i o p q (broken j) c r r′ b is-brk h k = par-break
-  par-is i o p q going false stuck r′ b w h k = tt
-  par-is i o p q going false (moved e p′) r′ b w h k = par-left h
-  par-is i o p q going true r r′ b w h k = right-is i o p q (front q) r′ (subst T (sym b) tt) (seen q) k
+  par-is i o p q going false stuck r′ b z h k = tt
+  par-is i o p q going false (moved w p′) r′ b z h k = par-left h
+  par-is i o p q going true r r′ b z h k = right-is i o p q (front q) r′ (subst T (sym b) tt) (seen q) k
 
   canrun-is : (i m : ℕ) (c : Bool) → eqb m n ≡ c → Is n x (canrun i m) (if c then moved quiet (nop i) else stuck)
   canrun-is i m true e = rw (eqb-true m n e) resumes
@@ -95,7 +95,7 @@ module _ (n : ℕ) (x : Memory) where
   is-step (atPar i o p q) = par-is i o p q (front p) (blocked n p) (nestedStep n x p) (nestedStep n x q) refl (seen p) (is-step p) (is-step q)
 
   -- and each step of the relation is the function's answer
-  pub goes-going : {t t′ : Tree} {e : Deed} → Goes n x t e t′ → front t ≡ going
+  pub goes-going : {t t′ : Tree} {w : Deed} → Goes n x t w t′ → front t ≡ going
   unfolding front
   goes-going acts = refl
   goes-going emits = refl
@@ -116,7 +116,7 @@ module _ (n : ℕ) (x : Memory) where
   goes-going (par-break-right b) = refl
   goes-going (par-right b h) = refl
 
-  pub not-blocked : (t : Tree) {t′ : Tree} {e : Deed} → nestedStep n x t ≡ moved e t′ → blocked n t ≡ false
+  pub not-blocked : (t : Tree) {t′ : Tree} {w : Deed} → nestedStep n x t ≡ moved w t′ → blocked n t ≡ false
   not-blocked t h = go (blocked n t) refl
     where
       go : (b : Bool) → blocked n t ≡ b → blocked n t ≡ false
@@ -125,7 +125,7 @@ module _ (n : ℕ) (x : Memory) where
           clash (cc)
       go false e = e
 
-  pub goes-nest : {t t′ : Tree} {e : Deed} → Goes n x t e t′ → nestedStep n x t ≡ moved e t′
+  pub goes-nest : {t t′ : Tree} {w : Deed} → Goes n x t w t′ → nestedStep n x t ≡ moved w t′
   unfolding nestedStep front seqStep loopStep parStep rightStep inPart
   goes-nest acts = refl
   goes-nest emits = refl
@@ -147,5 +147,5 @@ module _ (n : ℕ) (x : Memory) where
   goes-nest (par-right {p = p} b h) = rw (blocked-going n p b, T→true (blocked n p) b, goes-going h, goes-nest h)
 
   -- at most one rule fits
-  pub one-rule : {t u v : Tree} {d e : Deed} → Goes n x t d u → Goes n x t e v → moved d u ≡ moved e v
+  pub one-rule : {t u v : Tree} {w w′ : Deed} → Goes n x t w u → Goes n x t w′ v → moved w u ≡ moved w′ v
   one-rule g h = sym (goes-nest g) ∙ goes-nest h

@@ -4,7 +4,7 @@ use mathlib.Core.List.{List}
 use Prim.Native.Nat.{ℕ, _+_}
 use lib.IntN.{ℤ}
 use lib.ListN.{getD}
-use Rattle.rules.specs.Tree.{Par, Source, Tree, and, atLoop, atPar, await, canrun, emit, every, fin, ifvar, loop, nop, or, par, seq}
+use Rattle.rules.specs.Tree.{Par, Source, Tree, and, atLoop, atPar, await, canrun, emit, every, fin, ifvar, loop, nop, par, seq}
 use Rattle.theory.specs.Frame.{Blank, Same, Laid, part-same, blank-same, leaf-own, stem-own, fork-own, body-part, left-part, right-part}
 
 -- the states l at the places of the program t show the tree u; one side at most of a sequence or an if lives, and while an and or or waits for its turn its right is idle

@@ -14,7 +14,7 @@ use Rattle.theory.specs.Ranges.{Ranged, from-one}
 use Rattle.theory.specs.Progress.{calm-program, program-live}
 use Rattle.theory.specs.Big.{Fate, ends, breaks, waits, amiss, rings, Out, result, later, Calmed, after, settle, seqF, resume, Meets, resume-is, guarded}
 
--- its loops are guarded, its everys and fins have calm bodies
+-- its loops are guarded, its everys and fins have calm bodies, and no event of it is 0
 unfoldable pub Sound : Tree → Type 0
 unfolding Calm mayEnd
 Sound (nop i) = Unit {0}
@@ -34,37 +34,37 @@ Sound (atPar i o p q) = ⊥
 
 pub sound-good : (t : Tree) → Sound t → Good t
 unfolding Sound Good
-sound-good (nop i) q = tt
-sound-good (act i a v k) q = tt
-sound-good (await i s e) q = tt
-sound-good (emit i e y) q = tt
-sound-good (break i) q = tt
-sound-good (ifvar i v p q) q1 = (sound-good p (q1 .0), sound-good q (q1 .1))
-sound-good (seq i p q) q1 = (sound-good p (q1 .0), sound-good q (q1 .1))
-sound-good (loop i p) q = (sound-good p (q .1), q .0)
-sound-good (every i s e p) q = q .1
-sound-good (par i o p q) q1 = (sound-good p (q1 .0), sound-good q (q1 .1))
-sound-good (fin i p) q = q
-sound-good (canrun i m) q = absurd q
-sound-good (atLoop i p q) x = absurd x
-sound-good (atPar i o p q) x = absurd x
+sound-good (nop i) h = tt
+sound-good (act i a v k) h = tt
+sound-good (await i s e) h = tt
+sound-good (emit i e y) h = tt
+sound-good (break i) h = tt
+sound-good (ifvar i v p q) h = (sound-good p (h .0), sound-good q (h .1))
+sound-good (seq i p q) h = (sound-good p (h .0), sound-good q (h .1))
+sound-good (loop i p) h = (sound-good p (h .1), h .0)
+sound-good (every i s e p) h = h .1
+sound-good (par i o p q) h = (sound-good p (h .0), sound-good q (h .1))
+sound-good (fin i p) h = h
+sound-good (canrun i m) h = absurd h
+sound-good (atLoop i p q) h = absurd h
+sound-good (atPar i o p q) h = absurd h
 
 pub sound-program : (t : Tree) → Sound t → Program t
 unfolding Sound Program
-sound-program (nop i) q = tt
-sound-program (act i a v k) q = tt
-sound-program (await i s e) q = tt
-sound-program (emit i e y) q = tt
-sound-program (break i) q = tt
-sound-program (ifvar i v p q) q1 = (sound-program p (q1 .0), sound-program q (q1 .1))
-sound-program (seq i p q) q1 = (sound-program p (q1 .0), sound-program q (q1 .1))
-sound-program (loop i p) q = sound-program p (q .1)
-sound-program (every i s e p) q = calm-program p (q .1)
-sound-program (par i o p q) q1 = (sound-program p (q1 .0), sound-program q (q1 .1))
-sound-program (fin i p) q = calm-program p q
-sound-program (canrun i m) q = absurd q
-sound-program (atLoop i p q) x = absurd x
-sound-program (atPar i o p q) x = absurd x
+sound-program (nop i) h = tt
+sound-program (act i a v k) h = tt
+sound-program (await i s e) h = tt
+sound-program (emit i e y) h = tt
+sound-program (break i) h = tt
+sound-program (ifvar i v p q) h = (sound-program p (h .0), sound-program q (h .1))
+sound-program (seq i p q) h = (sound-program p (h .0), sound-program q (h .1))
+sound-program (loop i p) h = sound-program p (h .1)
+sound-program (every i s e p) h = calm-program p (h .1)
+sound-program (par i o p q) h = (sound-program p (h .0), sound-program q (h .1))
+sound-program (fin i p) h = calm-program p h
+sound-program (canrun i m) h = absurd h
+sound-program (atLoop i p q) h = absurd h
+sound-program (atPar i o p q) h = absurd h
 
 pub sound : (t : Tree) → Program t → Good t → Ranged t → Sound t
 unfolding Sound Program Good Ranged

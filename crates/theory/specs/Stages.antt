@@ -12,6 +12,7 @@ use Rattle.theory.specs.Logic.{clash, T→true}
 
 -- ---- one stage before the others
 
+-- its places and the refusal of those after it
 pub record Pass (l : List ℕ) (o : Option Refusal) : Type 0 where
   pub clean : l ≡ []
   pub later : o ≡ none

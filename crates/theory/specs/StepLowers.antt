@@ -26,7 +26,7 @@ module _ (s e o : ℕ) where
 
   abbrev pub LowersO : Tree → Nested → Type 0
   LowersO t stuck = Unit {0}
-  LowersO t (moved x t′) = Lowers t (stepCost s e o x) t′
+  LowersO t (moved w t′) = Lowers t (stepCost s e o w) t′
 
   -- a leaf becomes @nop
   to-nop : (i k : ℕ) (t : Tree) → k ≤ treeCost s e o t → T (mayEnd t) → Lowers t k (nop i)
@@ -63,7 +63,7 @@ module _ (s e o : ℕ) where
     loosens = λ t. or-left (loose p) (loose q) (broken-loose p b ef);
   }
   seq-lowers i p q gp gq going stuck ef h = tt
-  seq-lowers i p q gp gq going (moved x p′) ef h = seq-under i (stepCost s e o x) p p′ q gq h
+  seq-lowers i p q gp gq going (moved w p′) ef h = seq-under i (stepCost s e o w) p p′ q gq h
 
   loop-lowers : (i : ℕ) (p q : Tree) → Good p → Good q → T (not (mayEnd q)) → (f : Front) (r : Nested) → front p ≡ f → LowersO p r → LowersO (atLoop i p q) (loopStep i f q r)
   unfolding treeCost eventCost mayEnd mayBreak loose Good loopStep inPart stepCost
@@ -84,7 +84,7 @@ module _ (s e o : ℕ) where
     loosens = λ t. t;
   }
   loop-lowers i p q gp gq ne going stuck ef h = tt
-  loop-lowers i p q gp gq ne going (moved x p′) ef h = record {
+  loop-lowers i p q gp gq ne going (moved w p′) ef h = record {
     good = (h .good, gq, ne);
     less = omega (arith, h .less, when-mono (mayEnd p′) (mayEnd p) (2 * s + treeCost s e o q) (h .ends));
     adding = omega (arith, h .adding);
@@ -171,14 +171,14 @@ module _ (s e o : ℕ) where
   right-lowers i j p q gp gq done r ef h = keep-left i j p q gp (done-ends q ef)
   right-lowers i j p q gp gq (broken b) r ef h = breaks-out i b j p q p gp (omega arith) (or-right (mayBreak p) (mayBreak q) (broken-breaks q b ef)) (or-right (loose p) (loose q) (broken-loose q b ef))
   right-lowers i j p q gp gq going stuck ef h = tt
-  right-lowers i j p q gp gq going (moved x q′) ef h = par-under-right i (stepCost s e o x) j p q q′ gp h
+  right-lowers i j p q gp gq going (moved w q′) ef h = par-under-right i (stepCost s e o w) j p q q′ gp h
 
   par-lowers : (i : ℕ) (j : Par) (p q : Tree) → Good p → Good q → (f : Front) (b : Bool) (r r′ : Nested) → front p ≡ f → LowersO p r → LowersO q r′ → LowersO (atPar i j p q) (parStep i j p q f b r r′)
   unfolding parStep inPart stepCost
   par-lowers i j p q gp gq done b r r′ ef h h′ = keep-right i j p q gq (done-ends p ef)
   par-lowers i j p q gp gq (broken k) b r r′ ef h h′ = breaks-out i k j p q q gq (omega arith) (or-left (mayBreak p) (mayBreak q) (broken-breaks p k ef)) (or-left (loose p) (loose q) (broken-loose p k ef))
   par-lowers i j p q gp gq going false stuck r′ ef h h′ = tt
-  par-lowers i j p q gp gq going false (moved x p′) r′ ef h h′ = par-under-left i (stepCost s e o x) j p p′ q gq h
+  par-lowers i j p q gp gq going false (moved w p′) r′ ef h h′ = par-under-left i (stepCost s e o w) j p p′ q gq h
   par-lowers i j p q gp gq going true r r′ ef h h′ = right-lowers i j p q gp gq (front q) r′ refl h′
 
   branch-lowers : (i v : ℕ) (p q : Tree) (b : Bool) → Good p → Good q → Lowers (ifvar i v p q) s (if b then q else p)

@@ -15,6 +15,7 @@ use Rattle.theory.specs.Relation.{Goes, Is, is-step, goes-nest, goes-goi
 abbrev pub stepped : Deed → Tree → Description → Description
 stepped w t d = record { tree = t; level = d .level; pending = raised w; memory = effect w (d .memory) }
 
+-- one step: a push, a pop, or a nested one
 pub data Steps (d : Description) : Description → Type 0 where
   pushes : {v : Event} → d .pending ≡ some v → Steps d (push v d)
   pops : {n : ℕ} → d .pending ≡ none → d .level ≡ suc n → T (nopOrBlocked (suc n) (d .tree)) → Steps d (pop n d)

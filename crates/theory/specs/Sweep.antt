@@ -48,8 +48,9 @@ module _ {M : Type 0} (o : Ops M) where
   idle-sweep (atLoop i p q) l m z b = absurd z
   idle-sweep (atPar i c p q) l m z b = absurd z
 
--- ---- a plain tree
+-- ---- a calm tree
 
+-- from s steps on, a run on states came to the memory and the steps of c
 pub record Settles (s : ℕ) (m : Counted) (c : Calmed) : Type 0 where
   pub memory : m .memory ≡ c .mem
   pub steps : m .steps ≡ s + c .steps
@@ -82,6 +83,7 @@ settles (atPar i c p q) k m x e = absurd k
 
 -- ---- what lives
 
+-- from states l and s steps on, a clear of t left all of it idle, and came to the memory and the steps of c
 pub record Clears (t : Tree) (l : List ℕ) (s : ℕ) (w : Swept Counted) (c : Calmed) : Type 0 where
   pub lived : w .lived ≡ true
   pub within : Within t l (w .states)
@@ -89,7 +91,7 @@ pub record Clears (t : Tree) (l : List ℕ) (s : ℕ) (w : Swept Counted) (c : C
   pub memory : w .memory .memory ≡ c .mem
   pub steps : w .memory .steps ≡ s + c .steps
 
--- clearing a calm tree does nothing
+-- c leaves the memory x as it was and takes no step; so does the clear of a calm tree
 pub record Quiet (x : Memory) (c : Calmed) : Type 0 where
   pub memory : c .mem ≡ x
   pub steps : c .steps ≡ 0

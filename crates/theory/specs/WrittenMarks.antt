@@ -23,6 +23,7 @@ unfolding markAll
 mark-length [] m = refl
 mark-length (i ∷ is) m = length-set (markAll is m) i 1 ∙ mark-length is m
 
+-- the mark of a place that waits, or does not
 abbrev pub bit : Bool → ℕ
 bit true = 1
 bit false = 0
@@ -76,6 +77,7 @@ unfolding allZero
 zeros zero = tt
 zeros (suc n) = zeros n
 
+-- a place where t waits
 record Some (t : Tree) : Type 0 where
   pub place : ℕ
   pub isIn : T (member place (waits t))
