@@ -1,9 +1,8 @@
 -- `finish` stores marks and variables, and answers the counts.
 -- Assumes nothing.
-use mathlib.Core.Path.{_≡_, refl}
+use mathlib.Core.Path.{refl}
 use borrow.Author.Needs.{needs}
 use Rattle.calls.proofs.Answering.{same-answer}
-use borrow.Author.Needs.{needs}
 use Rattle.calls.proofs.hold.finish.Statement.{statement}
 use Rattle.calls.proofs.hold.finish.Tie as tie
 use Rattle.calls.proofs.hold.finish.Reads as reads

@@ -1,11 +1,10 @@
 -- `load_vars` copies the variables: the loop has copied the first i.
 -- Assumes nothing.
-use mathlib.Core.Path.{_≡_, refl}
+use mathlib.Core.Path.{_≡_}
 use Prim.Native.Nat.{_≤_, _-_}
 use native.Mathlib.Omega.{arith}
 use lib.IntN.{pos}
-use lib.ListN.{length}
-use borrow.Author.Needs.{needs, sfits-of}
+use borrow.Author.Needs.{sfits-of}
 use mir.Syntax.{w32}
 use mir.Facts.{toZ-ofZ}
 use Rattle.calls.proofs.Copying.{copied, copied-none, copied-more, copied-all}

@@ -1,10 +1,9 @@
 -- `store_marks` copies the states of the records: the loop has copied the first i.
 -- Assumes nothing.
-use mathlib.Core.Path.{_≡_, refl, ap, sym, _∙_}
+use mathlib.Core.Path.{_≡_, refl, _∙_}
 use Prim.Native.Nat.{_≤_, _-_}
 use native.Mathlib.Omega.{arith}
 use lib.ListN.{length, length-set}
-use borrow.Author.Needs.{needs}
 use Rattle.calls.proofs.Copying.{copied, copied-none, copied-more, copied-front}
 use Rattle.calls.proofs.hold.store_marks.Statement.{statement}
 use Rattle.calls.proofs.hold.store_marks.Tie as tie

@@ -1,10 +1,7 @@
 -- `goes_on` tests for an event and for room.
 -- Assumes nothing.
-use mathlib.Core.Path.{_≡_, refl}
-use native.Mathlib.Omega.{arith}
 use borrow.Author.Needs.{needs}
 use borrow.Author.Tests.{le-ltb, lt-ltb}
-use borrow.Author.Needs.{needs}
 use Rattle.calls.proofs.list.goes_on.Statement.{statement}
 use Rattle.calls.proofs.list.goes_on.Tie as tie
 use Rattle.calls.proofs.list.goes_on.Reads as reads

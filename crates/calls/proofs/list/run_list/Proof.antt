@@ -1,6 +1,6 @@
 -- `run_list` is the list of the rules for every input.
 -- Assumes nothing.
-use mathlib.Core.Path.{_≡_, refl, sym}
+use mathlib.Core.Path.{refl, sym}
 use Prim.Native.Nat.{_/_}
 use lib.ListN.{length}
 use borrow.Author.Needs.{needs}
@@ -10,7 +10,6 @@ use Rattle.calls.specs.Answers.{lent}
 use Rattle.calls.specs.Stages.{runStages}
 use Rattle.calls.proofs.Judging.{all-passed}
 use Rattle.calls.proofs.Answering.{tested-ran}
-use borrow.Author.Needs.{needs}
 use Rattle.calls.proofs.list.run_list.Statement.{statement}
 use Rattle.calls.proofs.list.run_list.Tie as tie
 use Rattle.calls.proofs.list.run_list.Reads as reads

@@ -1,10 +1,7 @@
 -- `stop_at` gives 12 where events are left.
 -- Assumes nothing.
-use mathlib.Core.Path.{_≡_, refl}
-use native.Mathlib.Omega.{arith}
 use borrow.Author.Needs.{needs}
 use borrow.Author.Tests.{le-ltb, lt-ltb}
-use borrow.Author.Needs.{needs}
 use Rattle.calls.proofs.list.stop_at.Statement.{statement}
 use Rattle.calls.proofs.list.stop_at.Tie as tie
 use Rattle.calls.proofs.list.stop_at.Reads as reads

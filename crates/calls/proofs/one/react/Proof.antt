@@ -1,6 +1,5 @@
 -- `react` is the reaction of the rules for every input.
 -- Assumes nothing.
-use mathlib.Core.Path.{_≡_}
 use mathlib.Core.Option.{none}
 use borrow.Author.Needs.{needs}
 use mir.Syntax.{w32}
@@ -11,7 +10,6 @@ use Rattle.calls.specs.Stages.{reactStages}
 use Rattle.calls.proofs.Judging.{all-passed, same-steps}
 use Rattle.calls.proofs.Answering.{tested-refused}
 use Rattle.calls.proofs.Reacting.{same-value}
-use borrow.Author.Needs.{needs}
 use Rattle.calls.proofs.one.react.Statement.{statement}
 use Rattle.calls.proofs.one.react.Tie as tie
 use Rattle.calls.proofs.one.react.Reads as reads

@@ -1,6 +1,6 @@
 -- `react_tested` is the reaction of the rules: what it holds stands for what was taken.
 -- Assumes nothing.
-use mathlib.Core.Path.{_≡_, refl}
+use mathlib.Core.Path.{refl}
 use native.Mathlib.Omega.{arith}
 use lib.ListN.{replicate}
 use mir.Syntax.{w32}
@@ -9,7 +9,6 @@ use borrow.Author.Needs.{needs}
 use Rattle.calls.proofs.Passed.{passed-spot, passed-steps}
 use Rattle.calls.proofs.Answering.{held-bytes, held-vars, marks-sized}
 use Rattle.calls.proofs.Reacting.{react-answers, react-ready, reacts, ready-few}
-use borrow.Author.Needs.{needs}
 use Rattle.calls.proofs.one.react_tested.Statement.{statement}
 use Rattle.calls.proofs.one.react_tested.Tie as tie
 use Rattle.calls.proofs.one.react_tested.Reads as reads

@@ -1,6 +1,5 @@
 -- `start` is the start of the rules for every input.
 -- Assumes nothing.
-use mathlib.Core.Path.{_≡_}
 use mathlib.Core.Option.{none}
 use borrow.Author.Needs.{needs}
 use Rattle.rules.specs.Run as Run
@@ -9,7 +8,6 @@ use Rattle.calls.specs.Answers.{lent, noTotals}
 use Rattle.calls.specs.Stages.{startStages}
 use Rattle.calls.proofs.Judging.{all-passed, same-steps}
 use Rattle.calls.proofs.Answering.{tested-refused}
-use borrow.Author.Needs.{needs}
 use Rattle.calls.proofs.one.start.Statement.{statement}
 use Rattle.calls.proofs.one.start.Tie as tie
 use Rattle.calls.proofs.one.start.Reads as reads

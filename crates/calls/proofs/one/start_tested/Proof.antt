@@ -1,13 +1,12 @@
 -- `start_tested` is the start of the rules: what it holds stands for what it left.
 -- Assumes nothing.
-use mathlib.Core.Path.{_≡_, refl}
+use mathlib.Core.Path.{refl}
 use native.Mathlib.Omega.{arith}
 use lib.ListN.{replicate, getD-replicate}
 use borrow.Author.Needs.{needs}
 use Rattle.calls.proofs.Passed.{passed-few, passed-spot, passed-steps}
 use Rattle.calls.proofs.Answering.{held-bytes, held-vars}
 use Rattle.calls.proofs.Reacting.{start-answers, start-few, start-sized, start-table, start-vars, started}
-use borrow.Author.Needs.{needs}
 use Rattle.calls.proofs.one.start_tested.Statement.{statement}
 use Rattle.calls.proofs.one.start_tested.Tie as tie
 use Rattle.calls.proofs.one.start_tested.Reads as reads

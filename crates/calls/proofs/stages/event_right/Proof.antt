@@ -1,11 +1,9 @@
 -- `event_right` is the test of an event's first four bytes.
 -- Assumes nothing.
-use mathlib.Core.Path.{_≡_}
 use Prim.Native.Nat.{_*_}
 use native.Mathlib.Omega.{arith}
 use borrow.Author.Needs.{needs}
 use Rattle.calls.proofs.Passing.{no-event, first-nonzero, second-nonzero, third-decides}
-use borrow.Author.Needs.{needs}
 use Rattle.calls.proofs.stages.event_right.Statement.{statement}
 use Rattle.calls.proofs.stages.event_right.Tie as tie
 use Rattle.calls.proofs.stages.event_right.Reads as reads

@@ -1,8 +1,5 @@
 -- `is_event` is the test that an event is 1 to 63.
 -- Assumes nothing.
-use mathlib.Core.Path.{_≡_, refl, sym}
-use native.Mathlib.Omega.{arith}
-use borrow.Author.Needs.{needs}
 use borrow.Author.Tests.{lt-leb, le-leb}
 use Rattle.calls.proofs.stages.is_event.Statement.{statement}
 use Rattle.calls.proofs.stages.is_event.Tie as tie

@@ -1,17 +1,12 @@
 -- `react_stages` is the verdict of a reaction's stages.
 -- Assumes nothing.
-use mathlib.Core.Path.{_≡_, sym, _∙_}
-use mathlib.Core.List.{[], _∷_, _++_}
-use native.Mathlib.Omega.{arith}
+use mathlib.Core.Path.{sym, _∙_}
+use mathlib.Core.List.{[], _∷_}
 use borrow.Author.Needs.{needs}
-use Rattle.rules.specs.Stages.{stage}
-use Rattle.rules.specs.Check.{announced, tableStages}
-use Rattle.rules.specs.Marks.{marksStages}
-use Rattle.rules.specs.Calls.{varsStage, eventStage, roomStage}
-use Rattle.rules.specs.Lists.{listFails}
+use Rattle.rules.specs.Check.{announced}
+use Rattle.rules.specs.Calls.{eventStage, roomStage}
 use Rattle.calls.specs.Stages.{standingStages}
 use Rattle.calls.proofs.Judging.{standing-first, stays-refused, goes-on, accepts-all, fails-test, passes-test, fails-room, passes-room}
-use borrow.Author.Needs.{needs}
 use Rattle.calls.proofs.stages.react_stages.Statement.{statement}
 use Rattle.calls.proofs.stages.react_stages.Tie as tie
 use Rattle.calls.proofs.stages.react_stages.Reads as reads

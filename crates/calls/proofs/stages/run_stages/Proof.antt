@@ -1,17 +1,12 @@
 -- `run_stages` is the verdict of a list's stages.
 -- Assumes nothing.
-use mathlib.Core.Path.{_≡_, sym, _∙_}
-use mathlib.Core.List.{[], _∷_, _++_}
-use native.Mathlib.Omega.{arith}
+use mathlib.Core.Path.{sym, _∙_}
+use mathlib.Core.List.{[], _∷_}
 use borrow.Author.Needs.{needs}
 use Rattle.rules.specs.Stages.{stage}
-use Rattle.rules.specs.Check.{announced, tableStages}
-use Rattle.rules.specs.Marks.{marksStages}
-use Rattle.rules.specs.Calls.{varsStage, eventStage, roomStage}
 use Rattle.rules.specs.Lists.{listFails}
 use Rattle.calls.specs.Stages.{standingStages}
 use Rattle.calls.proofs.Judging.{standing-first, stays-refused, goes-on, accepts-all, fails-first, passes-first, low-place}
-use borrow.Author.Needs.{needs}
 use Rattle.calls.proofs.stages.run_stages.Statement.{statement}
 use Rattle.calls.proofs.stages.run_stages.Tie as tie
 use Rattle.calls.proofs.stages.run_stages.Reads as reads

@@ -1,17 +1,12 @@
 -- `start_stages` is the verdict of a start's stages.
 -- Assumes nothing.
-use mathlib.Core.Path.{_≡_, sym, _∙_}
-use mathlib.Core.List.{[], _∷_, _++_}
-use native.Mathlib.Omega.{arith}
-use lib.ListN.{length}
+use mathlib.Core.Path.{sym, _∙_}
+use mathlib.Core.List.{[], _∷_}
 use borrow.Author.Needs.{needs}
-use Prim.Native.Nat.{_/_}
-use Rattle.rules.specs.Stages.{stage}
 use Rattle.rules.specs.Check.{announced, tableStages}
-use Rattle.rules.specs.Marks.{lengthStage, marksStages}
-use Rattle.rules.specs.Calls.{varsStage, eventStage, roomStage}
+use Rattle.rules.specs.Marks.{lengthStage}
+use Rattle.rules.specs.Calls.{varsStage, roomStage}
 use Rattle.calls.proofs.Judging.{checks, stays-refused, goes-on, accepts-all, fails-equal, passes-equal, fails-room, passes-room}
-use borrow.Author.Needs.{needs}
 use Rattle.calls.proofs.stages.start_stages.Statement.{statement}
 use Rattle.calls.proofs.stages.start_stages.Tie as tie
 use Rattle.calls.proofs.stages.start_stages.Reads as reads

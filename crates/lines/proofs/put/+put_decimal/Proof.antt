@@ -4,7 +4,6 @@ use mathlib.Core.Path.{sym, ap, _∙_}
 use mathlib.Core.List.{[], _∷_, _++_}
 use Prim.Native.Nat.{ℕ, _+_, _/_, _<_}
 use native.Mathlib.Omega.{arith}
-use lib.ListN.{length}
 use borrow.Fn.Kinds.{In}
 use borrow.Fn.PlainCycle.{Measures, is, falls, and}
 use Rattle.lines.specs.Lines.{digit, decimal}

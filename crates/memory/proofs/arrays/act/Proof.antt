@@ -1,7 +1,7 @@
 -- `act` meets its contract: kind 7 puts an output, kinds 1 to 6 set their variable, all others do nothing.
 -- Assumes nothing.
 use mathlib.Core.Path.{_≡_, sym, _∙_}
-use borrow.Author.Needs.{sfits-of}
+use borrow.Author.Needs.{needs, sfits-of}
 use denote.Ref.{now}
 use lib.Arith.{lt-of-le-ne}
 use lib.Signed.{mag}
@@ -11,7 +11,6 @@ use mir.Val.{toZ, ofZ}
 use mir.Facts.{toZ-ofZ}
 use Rattle.memory.specs.Arrays.{variable, putOutput, operand, newValue}
 use Rattle.memory.proofs.Acting.{sets-variable, puts-output, does-nothing, idle}
-use borrow.Author.Needs.{needs}
 use Rattle.memory.proofs.arrays.act.Statement.{statement}
 use Rattle.memory.proofs.arrays.act.Tie as tie
 

@@ -1,9 +1,8 @@
 -- `is_nonzero` meets its contract: only 0 has no bit set.
 -- Assumes nothing.
-use borrow.Author.Needs.{sfits-of}
+use borrow.Author.Needs.{needs, sfits-of}
 use Rattle.memory.proofs.Bits.{zero-bits}
 use Rattle.memory.specs.Arrays.{arrays, isNonzero}
-use borrow.Author.Needs.{needs}
 use Rattle.memory.proofs.arrays.is_nonzero.Statement.{statement}
 use Rattle.memory.proofs.arrays.is_nonzero.Tie as tie
 

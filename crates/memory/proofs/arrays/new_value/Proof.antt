@@ -4,9 +4,8 @@ use borrow.Author.Tests.{ne-eqb}
 use mathlib.Core.Path.{_∙_}
 use mir.Syntax.{w32}
 use mir.Facts.{toZ-ofZ}
-use borrow.Author.Needs.{sfits-of}
+use borrow.Author.Needs.{needs, sfits-of}
 use Rattle.memory.specs.Arrays.{newValue}
-use borrow.Author.Needs.{needs}
 use Rattle.memory.proofs.arrays.new_value.Statement.{statement}
 use Rattle.memory.proofs.arrays.new_value.Tie as tie
 

@@ -4,8 +4,7 @@ use mathlib.Core.Path.{_∙_}
 use mir.Syntax.{w32}
 use mir.Facts.{toZ-ofZ}
 use borrow.Author.Tests.{lt-ltb, le-ltb}
-use borrow.Author.Needs.{sfits-of}
-use borrow.Author.Needs.{needs}
+use borrow.Author.Needs.{needs, sfits-of}
 use Rattle.memory.proofs.arrays.operand.Statement.{statement}
 use Rattle.memory.proofs.arrays.operand.Tie as tie
 

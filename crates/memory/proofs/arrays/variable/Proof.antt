@@ -1,10 +1,9 @@
 -- `variable` meets its contract: an element of the array fits, so that its bits stand for it.
 -- Assumes nothing.
 use borrow.Author.Tests.{lt-ltb, le-ltb}
-use borrow.Author.Needs.{sfits-of}
+use borrow.Author.Needs.{needs, sfits-of}
 use mir.Syntax.{w32}
 use mir.Facts.{toZ-ofZ}
-use borrow.Author.Needs.{needs}
 use Rattle.memory.proofs.arrays.variable.Statement.{statement}
 use Rattle.memory.proofs.arrays.variable.Tie as tie
 
