@@ -1,5 +1,7 @@
 -- Laws of marks: stage 8; the awaited events; the remaining program.
 pub mod Seeing
+pub mod Arrays
+pub mod AllFit
 pub mod Ranges
 pub mod EventSets
 pub mod Hearing

@@ -7,8 +7,7 @@ use mathlib.Core.Option.{Option, none, some}
 use Prim.Native.Nat.{ℕ, zero, suc, _+_, _≤_, _<_}
 use native.Mathlib.Omega.{arith}
 use lib.Dec.{eqb}
-use lib.ListN.{length, getD, set, length-set}
-use lib.Seq.{getD-set-same, getD-set-other}
+use lib.ListN.{getD}
 use borrow.Author.Tests.{eq-eqb, ne-eqb, eqb-true, eqb-false}
 use Rattle.rules.specs.Stages.{if_then_else_}
 use Rattle.rules.specs.Limits.{mostRecords}
@@ -181,16 +180,3 @@ parts-made b m rests i p known d {k} e w n {j} q {l} {r} u v {h} g =
       span = rw (g, a, c, ← tree-span b j (o .place), f) (x .span);
       records = rw (g, a, c, f) (x .records);
     }
-
-pub rests-start : (b m rests : List ℕ) {i : ℕ} → length rests ≡ mostRecords → recordsOf b ≤ i → Rests b m i rests
-rests-start b m rests e h = record { many = e; at = λ j g l. absurd (omega arith) }
-
-pub rests-from : (b m rests : List ℕ) {i j : ℕ} → Rests b m i rests → i ≤ j → Rests b m j rests
-rests-from b m rests k h = record { many = k .many; at = λ j g l. k .at j (omega arith) l }
-
-pub rests-more : (b m rests : List ℕ) (i : ℕ) → i < mostRecords → Rests b m (i + 1) rests → {x : ℕ} → x ≡ restSpan m (treeOf b i) → Rests b m i (set rests i x)
-rests-more b m rests i l known {x} e = record { many = length-set rests i x ∙ known .many; at = λ j g h. go j g h (eqb j i) refl }
-  where
-    go : (j : ℕ) → i ≤ j → j < recordsOf b → (y : Bool) → eqb j i ≡ y → getD (set rests i x) j 0 ≡ restSpan m (treeOf b j)
-    go j g h true f = let q : j ≡ i = eqb-true j i f in rw q (getD-set-same rests i x 0 (omega (arith, known .many)) ∙ e)
-    go j g h false f = getD-set-other rests i j x 0 (eqb-false j i f) ∙ known .at j (omega (arith, eqb-false j i f)) h

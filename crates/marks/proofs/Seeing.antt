@@ -124,7 +124,7 @@ module _ (b m : List ℕ) (i : ℕ) (p : Place b i) {k : ℕ} (e : k ≡ kindAt 
     pub sees-loop : childrenOf k ≡ 1 → seenOf m (treeOf b i) ≡ seenOf m (treeOf b (i + 1))
     sees-loop l = is-at ∙ rw (h, l)
 
-    sees-two : (childrenOf k ≡ 0 → ⊥) → (childrenOf k ≡ 1 → ⊥) → seenOf m (treeOf b i) ≡ joinSeen k i (seenOf m (treeOf b (i + 1))) (seenOf m (treeOf b (secondAt b i)))
+    pub sees-two : (childrenOf k ≡ 0 → ⊥) → (childrenOf k ≡ 1 → ⊥) → seenOf m (treeOf b i) ≡ joinSeen k i (seenOf m (treeOf b (i + 1))) (seenOf m (treeOf b (secondAt b i)))
     sees-two l n = is-at ∙ rw (h, ne-eqb (childrenOf k) 0 l, ne-eqb (childrenOf k) 1 n)
 
     -- from what was seen of each child

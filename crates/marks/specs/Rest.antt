@@ -2,18 +2,17 @@
 use mathlib.Core.Path.{_≡_}
 use mathlib.Core.List.{List, [], _∷_, _++_}
 use mathlib.Core.Option.{Option, none, some}
-use Prim.Native.Nat.{ℕ, _+_, _*_, _/_, _%_, _<_, _≤_}
+use Prim.Native.Nat.{ℕ, _+_, _*_, _/_, _%_, _≤_}
 use lib.Dec.{eqb, ltb}
-use lib.ListN.{length, getD}
 use Rattle.rules.specs.Stages.{if_then_else_}
-use Rattle.rules.specs.Limits.{recordBytes, mostRecords}
+use Rattle.rules.specs.Limits.{recordBytes}
 use Rattle.rules.specs.Tree.{Tree, spanOf}
 use Rattle.rules.specs.Table.{secondAt, recordsOf}
 use Rattle.rules.specs.Marks.{restOf}
 use Rattle.rules.specs.Remaining.{recordsFor}
 use Rattle.table.specs.Kinds.{childrenOf}
 use Rattle.table.specs.Places.{treeOf}
-use Rattle.marks.specs.Fitting.{Spot, Sound}
+use Rattle.marks.specs.Fitting.{Known, Spot, Sound}
 
 -- 0 records where nothing remains
 abbrev pub spanO : Option Tree → ℕ
@@ -53,9 +52,8 @@ abbrev pub recordsBy : ℕ → ℕ → List ℕ → List ℕ → List ℕ → Li
 recordsBy h n l r w = if eqb h 0 then l else (if eqb h 1 then r else headBytes h n ++ (l ++ (if ltb h 21 then w else r)))
 
 -- how many records remain at each place from i on
-pub record Rests (b m : List ℕ) (i : ℕ) (rests : List ℕ) : Type 0 where
-  pub many : length rests ≡ mostRecords
-  pub at : (j : ℕ) → i ≤ j → j < recordsOf b → getD rests j 0 ≡ restSpan m (treeOf b j)
+abbrev pub Rests : List ℕ → List ℕ → ℕ → List ℕ → Type 0
+Rests b m i rests = Known (λ j n. n ≡ restSpan m (treeOf b j)) (recordsOf b) i rests
 
 -- room in a buffer of so many bytes, from record `at` on, for what remains of the construct at place i
 pub record Room (b m rests : List ℕ) (i at bytes : ℕ) : Type 0 where

@@ -1,14 +1,15 @@
 // Stage 8: the marks' number, each mark by itself, and whether the marks fit.
 ghost use mathlib.Core.Path.{_≡_};
-ghost use mathlib.Core.Bool.{_||_};
-ghost use Prim.Native.Nat.{_<_};
+ghost use mathlib.Core.Bool.{true, _||_};
+ghost use Prim.Native.Nat.{_+_, _≤_, _<_};
 ghost use lib.ListN.{length};
+ghost use Rattle.rules.specs.Limits.{mostRecords};
 ghost use Rattle.rules.specs.Stages.{failing, firstRefusal};
 ghost use Rattle.rules.specs.Table.{recordsOf};
 ghost use Rattle.rules.specs.Marks.{mayMark, markRight, marksStages};
 ghost use Rattle.table.specs.Places.{Place, treeOf};
 ghost use Rattle.table.specs.Found.{firstOf, Inside};
-ghost use Rattle.marks.specs.Fitting.{Spot, misfitsHere, seenOf, joinSeen, refusedAt};
+ghost use Rattle.marks.specs.Fitting.{Spot, misfitsHere, seenOf, joinSeen, parFit, Fits, FitFrom, LetsPass, refusedAt};
 use rules::Limits;
 use table::Found;
 
@@ -144,6 +145,70 @@ fn see(table: &[u8], marks: &[u8], i: usize) -> Seen
     join_seen(kind, i, left, right)
 }
 
+// An and or an or, by its sides: 0 without marks, 1 with marks, more where it does not fit.
+fn par_fit(kind: usize, left: u8, right: u8) -> u8
+    ensures { λ r. ⌜ r ≡ parFit kind left right ⌝ }
+{
+    if kind == 18 {
+        if left == right {
+            return left;
+        }
+        return 2;
+    }
+    if left < right { right } else { left }
+}
+
+// The same of the construct at place i, whose own mark is right, from the places after it.
+fn fit_at(table: &[u8], marks: &[u8], fits: &[u8; Limits::RECORDS], i: usize) -> u8
+    requires { ⌜ Spot (now table) (now marks) i ⌝ }
+    requires { ⌜ (recordsOf (now table) ≤ mostRecords) × (markRight (now table) (now marks) i ≡ true) ⌝ }
+    requires { ⌜ FitFrom (now table) (now marks) (i + 1) (now fits) ⌝ }
+    ensures { λ r. ⌜ Fits (now (table .entry)) (now (marks .entry)) i r ⌝ }
+{
+    if marks[i] != 0 {
+        return 1;
+    }
+    let kind = table::kind_at(table, i);
+    // Kinds from 12 on have children.
+    if kind < 12 {
+        return 0;
+    }
+    let left = fits[i + 1];
+    // An if or a sequence has marks on one side at most.
+    if kind < 14 {
+        return left + fits[table::second_at(table, i)];
+    }
+    if kind == 14 {
+        return left;
+    }
+    if may_mark(kind) {
+        return 0;
+    }
+    par_fit(kind, left, fits[table::second_at(table, i)])
+}
+
+// Where it is true, stage 8 lets the marks pass; where not, the walks have to look. One pass, from the last place on.
+fn all_fit(table: &[u8], marks: &[u8]) -> bool
+    requires { ⌜ Spot (now table) (now marks) 0 ⌝ }
+    ensures { λ r. ⌜ LetsPass (now (table .entry)) (now (marks .entry)) r ⌝ }
+{
+    let records = table.len() / Limits::RECORD_BYTES;
+    if Limits::RECORDS < records {
+        return false;
+    }
+    let mut fits = [0u8; Limits::RECORDS];
+    let mut i: usize = records;
+    while 0 < i {
+        i -= 1;
+        if !mark_right(table, marks, i) {
+            return false;
+        }
+        let fit = fit_at(table, marks, &fits, i);
+        fits[i] = fit;
+    }
+    fits[0] < 2
+}
+
 // Stage 8 of a table whose shape is right.
 pub fn marks_refused(table: &[u8], marks: &[u8]) -> Found
     requires { ⌜ Place (now table) 0 ⌝ }
@@ -151,6 +216,9 @@ pub fn marks_refused(table: &[u8], marks: &[u8]) -> Found
 {
     if marks.len() != table.len() / Limits::RECORD_BYTES {
         return Found::At(0);
+    }
+    if all_fit(table, marks) {
+        return Found::Nothing;
     }
     let first = first_mark(table, marks);
     match first {

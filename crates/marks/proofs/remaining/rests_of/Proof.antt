@@ -5,7 +5,7 @@ use native.Mathlib.Omega.{arith}
 use Prim.Native.Nat.{_≤_}
 use Rattle.rules.specs.Table.{recordsOf}
 use Rattle.marks.specs.Rest.{Rests}
-use Rattle.marks.proofs.Resting.{rests-start, rests-from, rests-more}
+use Rattle.marks.proofs.Arrays.{known-start, known-from, known-more}
 use Rattle.marks.proofs.remaining.rests_of.Statement.{statement}
 use Rattle.marks.proofs.remaining.rests_of.Tie as tie
 
@@ -16,31 +16,16 @@ abbrev μ-loop : tie.MeasureT-loop
 μ-loop table marks rests₀ i₀ rests i = i
 
 loop-holds : tie.Need-loop-holds Inv-loop μ-loop
-loop-holds c = (omega arith, rests-start _ _ _ refl (omega arith))
-
-sub-i : tie.Need-sub-i Inv-loop μ-loop
-sub-i c = omega arith
-
-rest-at-requires : tie.Need-rest-at-requires Inv-loop μ-loop
-rest-at-requires c κs = (record { place = record { shape = c .before .before .before .before .before .pre .0 .place .shape; inside = omega arith }; sized = c .before .before .before .before .before .pre .0 .sized }, (c .before .before .before .before .before .pre .1, rests-from _ _ _ (c .before .before .loop .inv .1) (omega arith)))
-
-cast-rests : tie.Need-cast-rests Inv-loop μ-loop
-cast-rests c = record { fits = c .rest-at .ensures .1 }
-
-mul-rests : tie.Need-mul-rests Inv-loop μ-loop
-mul-rests c = record { fits = omega (arith, c .before .before .before .before .before .before .pre .1 .few) }
-
-array-write-rests : tie.Need-array-write-rests Inv-loop μ-loop
-array-write-rests c = omega (arith, c .before .before .before .before .before .before .pre .1 .few)
+loop-holds c = (omega arith, known-start _ refl (omega arith))
 
 loop-less : tie.Need-loop-less Inv-loop μ-loop
 loop-less c = omega arith
 
 loop-again : tie.Need-loop-again Inv-loop μ-loop
-loop-again c = (omega arith, rests-more _ _ _ _ (omega (arith, c .before .before .before .before .before .before .pre .1 .few)) (rests-from _ _ _ (c .before .before .before .loop .inv .1) (omega arith)) (c .rest-at .ensures .0))
+loop-again c = (omega arith, known-more _ _ (omega (arith, c .before .before .before .before .before .before .pre .1 .few)) (known-from _ (c .before .before .before .loop .inv .1) (omega arith)) (c .rest-at .ensures .0))
 
 returns : tie.Need-returns Inv-loop μ-loop
-returns c = rests-from _ _ _ (c .before .loop .inv .1) (omega arith)
+returns c = known-from _ (c .before .loop .inv .1) (omega arith)
 
 pub rests-of-spec : {M : Type 1} → statement M
 rests-of-spec =
@@ -49,11 +34,11 @@ rests-of-spec =
     Inv-loop
     μ-loop
     loop-holds
-    sub-i
-    rest-at-requires
-    cast-rests
-    mul-rests
-    array-write-rests
+    (λ c. omega arith)
+    (λ c κs. (record { place = record { shape = c .before .before .before .before .before .pre .0 .place .shape; inside = omega arith }; sized = c .before .before .before .before .before .pre .0 .sized }, (c .before .before .before .before .before .pre .1, known-from _ (c .before .before .loop .inv .1) (omega arith))))
+    (λ c. record { fits = c .rest-at .ensures .1 })
+    (λ c. record { fits = omega (arith, c .before .before .before .before .before .before .pre .1 .few) })
+    (λ c. omega (arith, c .before .before .before .before .before .before .pre .1 .few))
     loop-less
     loop-again
     returns)
