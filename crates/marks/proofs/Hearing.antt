@@ -1,30 +1,44 @@
--- The events that a marked place at a place or below waits for, from its record and its children; those of the tree at rest where the marks fit.
+-- The events that the marked places of a program wait for are those of the tree at rest where the marks fit; and the event of one place.
 -- Assumes nothing.
 use mathlib.Core.Path.{_≡_, refl, sym, _∙_}
 use mathlib.Core.Bool.{Bool, true, false, _&&_, _||_}
 use mathlib.Core.List.{List, []}
 use mathlib.Core.Option.{Option, none, some}
-use Prim.Native.Nat.{ℕ, _+_, _*_, _%_, _^_, _≤_, _<_}
+use Prim.Native.Nat.{ℕ, _*_, _%_, _^_, _≤_, _<_}
 use native.Mathlib.Omega.{arith}
-use lib.Bits.{bitOr}
 use lib.Count.{ones}
 use lib.Dec.{T, eqb}
 use lib.ListN.{length, getD}
 use borrow.Author.Tests.{eq-eqb, ne-eqb, eqb-true}
 use Rattle.rules.specs.Stages.{if_then_else_, isSome, firstRefusal}
 use Rattle.rules.specs.Limits.{mostName}
-use Rattle.rules.specs.Tree.{Tree, nop, act, await, emit, break, ifvar, seq, loop, every, par, fin, canrun, atLoop, atPar, Par, Source, input, internal, assign, increase, copy, subtract, compare, divide, output, and, or}
-use Rattle.rules.specs.Table.{kindAt, nameAt, secondAt, programOf, inKindsTable}
-use Rattle.rules.specs.Marks.{marked, mayMark, marksStages, restSeq, restIf, restLoop, restPar, restOf, orNop, atRest, misfit, parMisfit, misfits}
+use Rattle.rules.specs.Tree.{Tree, nop, act, await, emit, break, ifvar, seq, loop, every, par, fin, canrun, atLoop, atPar, Par, Source}
+use Rattle.rules.specs.Table.{kindAt, nameAt, programOf, inKindsTable}
+use Rattle.rules.specs.Marks.{marked, marksStages, restSeq, restIf, restLoop, restPar, restOf, orNop, atRest, misfit, parMisfit, misfits}
 use Rattle.rules.specs.Query.{stirs, awaited}
 use Rattle.theory.specs.Marks.{parts}
 use Rattle.theory.specs.Accepted.{fitting}
-use Rattle.table.specs.Kinds.{childrenOf}
-use Rattle.table.specs.Places.{Place, treeOf, Node, aNop, anAct, anAwait, anEmit, aBreak, anIf, aSeq, aLoop, anEvery, aPar, aFin}
-use Rattle.table.proofs.Trees.{node-at}
-use Rattle.marks.specs.Awaited.{eventSet, heardBy, awaitedSet, listens, heardSet, lowestBit}
+use Rattle.table.specs.Places.{treeOf}
+use Rattle.marks.specs.Awaited.{eventSet, heardBy, awaitedSet, hearsAt, heardAt, lowestBit}
 use Rattle.marks.proofs.Ranges.{name-range, event-name}
-use Rattle.marks.proofs.EventSets.{same-set, no-events, one-shifted, both-sets, set-number, set-lowest}
+use Rattle.marks.proofs.EventSets.{same-set, no-events, one-shifted, set-number, set-lowest}
+
+-- some marked await or every of a program that the test names
+unfoldable pub listens : List ℕ → (ℕ → Source → ℕ → Bool) → Tree → Bool
+listens m w (nop i) = false
+listens m w (act i a v k) = false
+listens m w (await i s e) = w i s e && marked m i
+listens m w (emit i e y) = false
+listens m w (break i) = false
+listens m w (ifvar i v p q) = listens m w p || listens m w q
+listens m w (seq i p q) = listens m w p || listens m w q
+listens m w (loop i p) = listens m w p
+listens m w (every i s e p) = w i s e && marked m i
+listens m w (par i o p q) = listens m w p || listens m w q
+listens m w (fin i p) = false
+listens m w (canrun i k) = false
+listens m w (atLoop i p q) = false
+listens m w (atPar i o p q) = false
 
 -- ---- where the marks fit, what listens is what stirs in the tree at rest
 
@@ -102,8 +116,8 @@ module _ (w : ℕ → Source → ℕ → Bool) where
   unfolding atRest
   stirs-rest m t h = sym (or-nop (restOf m t) ∙ rest-stirs m t h)
 
-pub set-rest : (b m : List ℕ) → firstRefusal (marksStages b m) ≡ none → heardSet m (treeOf b 0) ≡ awaitedSet (atRest m (programOf b))
-unfolding heardSet awaitedSet treeOf programOf
+pub set-rest : (b m : List ℕ) → firstRefusal (marksStages b m) ≡ none → eventSet (λ e. listens m (heardBy e) (treeOf b 0)) ≡ awaitedSet (atRest m (programOf b))
+unfolding awaitedSet treeOf programOf
 set-rest b m h = same-set (λ e. listens m (heardBy e) (programOf b)) (λ e. stirs (heardBy e) (atRest m (programOf b))) (λ e. stirs-rest (heardBy e) m (programOf b) (fitting b m h))
 
 pub awaited-number : (t : Tree) → ones (awaitedSet t) ≡ length (awaited t)
@@ -114,42 +128,7 @@ pub awaited-lowest : (t : Tree) → lowestBit (awaitedSet t) ≡ getD (awaited t
 unfolding awaitedSet awaited
 awaited-lowest t = set-lowest (λ e. stirs (heardBy e) t)
 
--- ---- what listens at a place
-
--- by the kind: await input or every input; a leaf, or another kind that waits; a loop; two children
-abbrev listensAt : ℕ → List ℕ → List ℕ → ℕ → ℕ → Bool
-listensAt k b m i e =
-    if eqb k 8 || eqb k 15 then eqb e (nameAt b i) && marked m i else
-    (if eqb (childrenOf k) 0 then false else
-    (if mayMark k then false else
-    (if eqb (childrenOf k) 1 then listens m (heardBy e) (treeOf b (i + 1)) else
-    listens m (heardBy e) (treeOf b (i + 1)) || listens m (heardBy e) (treeOf b (secondAt b i)))))
-
-listens-at : (b m : List ℕ) (i : ℕ) → Place b i → (e : ℕ) → listens m (heardBy e) (treeOf b i) ≡ listensAt (kindAt b i) b m i e
-unfolding listens childrenOf
-listens-at b m i p e = go (node-at b i p)
-  where
-    go : {t : Tree} → Node b i t → listens m (heardBy e) t ≡ listensAt (kindAt b i) b m i e
-    go (aNop h) = rw h
-    go (anAct assign h) = rw h
-    go (anAct increase h) = rw h
-    go (anAct copy h) = rw h
-    go (anAct subtract h) = rw h
-    go (anAct compare h) = rw h
-    go (anAct divide h) = rw h
-    go (anAct output h) = rw h
-    go (anAwait input h) = rw h
-    go (anAwait internal h) = rw h
-    go (anEmit h) = rw h
-    go (aBreak h) = rw h
-    go (anIf h) = rw h
-    go (aSeq h) = rw h
-    go (aLoop h) = rw h
-    go (anEvery input h) = rw h
-    go (anEvery internal h) = rw h
-    go (aPar and h) = rw h
-    go (aPar or h) = rw h
-    go (aFin h) = rw h
+-- ---- what a record listens for by itself
 
 -- await input or every input
 data Hears (k : ℕ) : Type 0 where
@@ -172,52 +151,33 @@ name-most b i t {k} q h = go (hears k h)
     go (awaits e) = event-name (nameAt b i) (rw (sym q ∙ e) at (name-range b i t))
     go (everies e) = event-name (nameAt b i) (rw (sym q ∙ e) at (name-range b i t))
 
+and-false : (x : Bool) → (x && false) ≡ false
+and-false true = refl
+and-false false = refl
+
+and-true : (x : Bool) → (x && true) ≡ x
+and-true true = refl
+and-true false = refl
+
 -- as the code finds it: k is the kind here
-module _ (b m : List ℕ) (i : ℕ) (p : Place b i) {k : ℕ} (q : k ≡ kindAt b i) where
-  set-at : heardSet m (treeOf b i) ≡ eventSet (listensAt k b m i)
-  unfolding heardSet
-  set-at = rw q (same-set (λ e. listens m (heardBy e) (treeOf b i)) (listensAt (kindAt b i) b m i) (listens-at b m i p))
-
+module _ (b m : List ℕ) (i : ℕ) where
   -- by a test that agrees
-  set-by : (f : ℕ → Bool) → ((e : ℕ) → listensAt k b m i e ≡ f e) → heardSet m (treeOf b i) ≡ eventSet f
-  set-by f h = set-at ∙ same-set (listensAt k b m i) f h
+  set-by : (f : ℕ → Bool) → ((e : ℕ) → hearsAt b m i e ≡ f e) → heardAt b m i ≡ eventSet f
+  unfolding heardAt
+  set-by f h = same-set (hearsAt b m i) f h
 
-  and-false : (x : Bool) → (x && false) ≡ false
-  and-false true = refl
-  and-false false = refl
+  pub hears-nothing : (getD m i 0 ≡ 1 → ⊥) → 0 ≡ heardAt b m i
+  hears-nothing n = sym (set-by (λ e. false) (λ e. rw (ne-eqb (getD m i 0) 1 n, and-false (eqb e (nameAt b i))) (and-false (eqb (kindAt b i) 8 || eqb (kindAt b i) 15))) ∙ no-events)
 
-  and-true : (x : Bool) → (x && true) ≡ x
-  and-true true = refl
-  and-true false = refl
+  module _ {k : ℕ} (q : k ≡ kindAt b i) where
+    pub hears-other : (eqb k 8 || eqb k 15) ≡ false → 0 ≡ heardAt b m i
+    hears-other h = sym (set-by (λ e. false) (λ e. rw (← q, h)) ∙ no-events)
 
-  module _ (h : (eqb k 8 || eqb k 15) ≡ true) where
-    pub hears-nothing : (getD m i 0 ≡ 1 → ⊥) → 0 ≡ heardSet m (treeOf b i)
-    hears-nothing n = sym (set-by (λ e. false) (λ e. rw (h, ne-eqb (getD m i 0) 1 n) (and-false (eqb e (nameAt b i)))) ∙ no-events)
+    module _ (h : (eqb k 8 || eqb k 15) ≡ true) (t : T (inKindsTable b i)) {n : ℕ} (g : n ≡ nameAt b i) where
+      pub name-fits : n < 64
+      name-fits = omega (arith, name-most b i t q h .1)
 
-    pub name-fits : T (inKindsTable b i) → {n : ℕ} → n ≡ nameAt b i → n < 64
-    name-fits t g = omega (arith, name-most b i t q h .1)
-
-    pub hears-name : T (inKindsTable b i) → getD m i 0 ≡ 1 → {n : ℕ} → n ≡ nameAt b i → (1 * 2 ^ n) % 2 ^ 64 ≡ heardSet m (treeOf b i)
-    hears-name t n g =
-        let l = name-most b i t q h in
-        rw g (one-shifted (nameAt b i) (l .0) (l .1) ∙ sym (set-by (λ e. eqb e (nameAt b i)) (λ e. rw (h, eq-eqb (getD m i 0) 1 n) (and-true (eqb e (nameAt b i))))))
-
-  module _ (h : (eqb k 8 || eqb k 15) ≡ false) where
-    pub leaf-silent : childrenOf k ≡ 0 → 0 ≡ heardSet m (treeOf b i)
-    leaf-silent l = sym (set-by (λ e. false) (λ e. rw (h, l)) ∙ no-events)
-
-    module _ (l : childrenOf k ≡ 0 → ⊥) where
-      pub waiting-silent : mayMark k ≡ true → 0 ≡ heardSet m (treeOf b i)
-      waiting-silent w = sym (set-by (λ e. false) (λ e. rw (h, ne-eqb (childrenOf k) 0 l, w)) ∙ no-events)
-
-      module _ (w : mayMark k ≡ false) where
-        pub hears-body : childrenOf k ≡ 1 → heardSet m (treeOf b (i + 1)) ≡ heardSet m (treeOf b i)
-        unfolding heardSet
-        hears-body n = sym (set-by (λ e. listens m (heardBy e) (treeOf b (i + 1))) (λ e. rw (h, w, n)))
-
-        pub hears-both : (childrenOf k ≡ 1 → ⊥) → {j : ℕ} → j ≡ secondAt b i → {x y : ℕ} → x ≡ heardSet m (treeOf b (i + 1)) → y ≡ heardSet m (treeOf b j) → bitOr x y ≡ heardSet m (treeOf b i)
-        unfolding heardSet
-        hears-both n g {x} {y} u v =
-            rw (u, v, g)
-            (both-sets (λ e. listens m (heardBy e) (treeOf b (i + 1))) (λ e. listens m (heardBy e) (treeOf b (secondAt b i)))
-            ∙ sym (set-by (λ e. listens m (heardBy e) (treeOf b (i + 1)) || listens m (heardBy e) (treeOf b (secondAt b i))) (λ e. rw (h, ne-eqb (childrenOf k) 0 l, w, ne-eqb (childrenOf k) 1 n))))
+      pub hears-name : getD m i 0 ≡ 1 → (1 * 2 ^ n) % 2 ^ 64 ≡ heardAt b m i
+      hears-name e =
+          let l = name-most b i t q h in
+          rw g (one-shifted (nameAt b i) (l .0) (l .1) ∙ sym (set-by (λ x. eqb x (nameAt b i)) (λ x. rw (← q, h, eq-eqb (getD m i 0) 1 e) (and-true (eqb x (nameAt b i))))))

@@ -5,6 +5,7 @@ pub mod AllFit
 pub mod Ranges
 pub mod EventSets
 pub mod Hearing
+pub mod Onward
 pub mod Spans
 pub mod Resting
 pub mod Stores

@@ -1,15 +1,17 @@
 -- The input events that wake some place, as a set of bits: bit e for event e.
-use mathlib.Core.Bool.{Bool, false, _&&_, _||_}
+use mathlib.Core.Bool.{Bool, _&&_, _||_}
 use mathlib.Core.List.{List}
 use Prim.Native.Nat.{ℕ, zero, suc, _+_, _*_}
 use lib.Count.{trailingZeros}
-use lib.Dec.{eqb}
+use lib.Dec.{eqb, ltb}
 use Rattle.rules.specs.Stages.{if_then_else_}
 use Rattle.rules.specs.Limits.{mostName}
-use Rattle.rules.specs.Tree.{Tree, nop, act, await, emit, break, ifvar, seq, loop, every, par, fin, canrun, atLoop, atPar, Source, input}
+use Rattle.rules.specs.Tree.{Tree, Source, input}
+use Rattle.rules.specs.Table.{kindAt, nameAt, spanAt}
 use Rattle.rules.specs.Marks.{marked}
 use Rattle.rules.specs.Step.{wakes}
 use Rattle.rules.specs.Query.{stirs}
+use Rattle.table.specs.Kinds.{childrenOf}
 
 -- of the k numbers from e on those that pass a test, e at the lowest bit
 unfoldable pub bits : (ℕ → Bool) → ℕ → ℕ → ℕ
@@ -28,26 +30,18 @@ unfoldable pub awaitedSet : Tree → ℕ
 unfolding bits stirs
 awaitedSet t = eventSet (λ e. stirs (heardBy e) t)
 
--- some marked await or every of a program that the test names
-unfoldable pub listens : List ℕ → (ℕ → Source → ℕ → Bool) → Tree → Bool
-listens m w (nop i) = false
-listens m w (act i a v k) = false
-listens m w (await i s e) = w i s e && marked m i
-listens m w (emit i e y) = false
-listens m w (break i) = false
-listens m w (ifvar i v p q) = listens m w p || listens m w q
-listens m w (seq i p q) = listens m w p || listens m w q
-listens m w (loop i p) = listens m w p
-listens m w (every i s e p) = w i s e && marked m i
-listens m w (par i o p q) = listens m w p || listens m w q
-listens m w (fin i p) = false
-listens m w (canrun i k) = false
-listens m w (atLoop i p q) = false
-listens m w (atPar i o p q) = false
+-- the construct at place i is marked and waits for input event e
+abbrev pub hearsAt : List ℕ → List ℕ → ℕ → ℕ → Bool
+hearsAt b m i e = (eqb (kindAt b i) 8 || eqb (kindAt b i) 15) && (eqb e (nameAt b i) && marked m i)
 
-unfoldable pub heardSet : List ℕ → Tree → ℕ
-unfolding bits listens
-heardSet m t = eventSet (λ e. listens m (heardBy e) t)
+unfoldable pub heardAt : List ℕ → List ℕ → ℕ → ℕ
+unfolding bits
+heardAt b m i = eventSet (hearsAt b m i)
+
+-- the next record; behind an every or a fin the next construct
+unfoldable pub nextAt : List ℕ → ℕ → ℕ
+unfolding childrenOf
+nextAt b i = if ltb (kindAt b i) 15 then i + 1 else (if eqb (childrenOf (kindAt b i)) 1 then i + spanAt b i else i + 1)
 
 -- the lowest of a set, 0 where it is empty
 abbrev pub lowestBit : ℕ → ℕ

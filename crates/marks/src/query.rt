@@ -2,17 +2,17 @@
 ghost use mathlib.Core.Path.{_≡_};
 ghost use mathlib.Core.Bool.{_||_};
 ghost use mathlib.Core.Option.{none};
+ghost use Prim.Native.Nat.{_<_};
 ghost use lib.Count.{ones};
 ghost use lib.Dec.{eqb};
 ghost use lib.ListN.{length, getD};
 ghost use Rattle.rules.specs.Stages.{firstRefusal};
-ghost use Rattle.rules.specs.Table.{programOf};
+ghost use Rattle.rules.specs.Table.{recordsOf, programOf};
 ghost use Rattle.rules.specs.Marks.{marksStages, atRest};
 ghost use Rattle.rules.specs.Query as Query;
-ghost use Rattle.table.specs.Places.{treeOf};
 ghost use Rattle.marks.specs.Fitting.{Spot, Sound};
-ghost use Rattle.marks.specs.Awaited.{heardSet, awaitedSet, lowestBit};
-use crate::fitting::may_mark;
+ghost use Rattle.marks.specs.Awaited.{awaitedSet, heardAt, nextAt, lowestBit};
+use rules::Limits;
 
 // Await input and every input.
 fn hears(kind: usize) -> bool
@@ -21,32 +21,34 @@ fn hears(kind: usize) -> bool
     kind == 8 || kind == 15
 }
 
-// The input events that a marked place at place i or below waits for.
-fn heard(table: &[u8], marks: &[u8], i: usize) -> u64
+// The event that the construct at place i waits for where it is marked, as a set.
+fn heard_at(table: &[u8], marks: &[u8], i: usize) -> u64
     requires { ⌜ Spot (now table) (now marks) i ⌝ }
     requires { ⌜ Sound (now table) ⌝ }
-    ensures { λ r. ⌜ r ≡ heardSet (now (marks .entry)) (treeOf (now (table .entry)) i) ⌝ }
+    ensures { λ r. ⌜ r ≡ heardAt (now (table .entry)) (now (marks .entry)) i ⌝ }
 {
-    let kind = table::kind_at(table, i);
-    if hears(kind) {
-        if marks[i] != 1 {
-            return 0;
-        }
+    if marks[i] != 1 {
+        return 0;
+    }
+    if hears(table::kind_at(table, i)) {
         return 1u64 << table::name_at(table, i);
     }
-    let children = table::children_of(kind);
-    if children == 0 {
-        return 0;
+    0
+}
+
+// The next record; behind an every or a fin the next construct, as what is inside does not wait.
+fn next_at(table: &[u8], i: usize) -> usize
+    requires { ⌜ i < recordsOf (now table) ⌝ }
+    ensures { λ r. ⌜ r ≡ nextAt (now (table .entry)) i ⌝ }
+{
+    let kind = table::kind_at(table, i);
+    if kind < 15 {
+        return i + 1;
     }
-    if may_mark(kind) {
-        return 0;
+    if table::children_of(kind) == 1 {
+        return i + table::span_at(table, i);
     }
-    let left = heard(table, marks, i + 1);
-    if children == 1 {
-        return left;
-    }
-    let next = table::second_at(table, i);
-    left | heard(table, marks, next)
+    i + 1
 }
 
 // The set of events that wake some place of the tree at rest.
@@ -55,7 +57,15 @@ pub fn awaited(table: &[u8], marks: &[u8]) -> u64
     requires { ⌜ firstRefusal (marksStages (now table) (now marks)) ≡ none ⌝ }
     ensures { λ r. ⌜ r ≡ awaitedSet (atRest (now (marks .entry)) (programOf (now (table .entry)))) ⌝ }
 {
-    heard(table, marks, 0)
+    let records = table.len() / Limits::RECORD_BYTES;
+    let mut set: u64 = 0;
+    let mut i: usize = 0;
+    while i < records {
+        let heard = heard_at(table, marks, i);
+        set |= heard;
+        i = next_at(table, i);
+    }
+    set
 }
 
 pub fn number_of(set: u64) -> u32
