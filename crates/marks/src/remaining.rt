@@ -1,5 +1,6 @@
 // The remaining program: how many records of each construct remain, and writing them.
 ghost use mathlib.Core.Path.{_≡_};
+ghost use mathlib.Core.Bool.{true};
 ghost use Prim.Native.Nat.{_+_, _*_, _<_, _≤_};
 ghost use mathlib.Core.Option.{none};
 ghost use lib.ListN.{length, take, drop};
@@ -8,7 +9,7 @@ ghost use Rattle.rules.specs.Stages.{firstRefusal};
 ghost use Rattle.rules.specs.Limits.{recordBytes};
 ghost use Rattle.rules.specs.Tree.{spanOf};
 ghost use Rattle.rules.specs.Table.{kindAt, spanAt, recordsOf, programOf};
-ghost use Rattle.rules.specs.Marks.{marksStages, atRest};
+ghost use Rattle.rules.specs.Marks.{mayMark, marksStages, atRest};
 ghost use Rattle.rules.specs.Calls.{onto};
 ghost use Rattle.rules.specs.Remaining.{recordsFor};
 ghost use Rattle.table.specs.Kinds.{childrenOf};
@@ -78,7 +79,7 @@ fn span_by(head: usize, left: usize, right: usize, whole: usize) -> usize
 }
 
 // How many records remain at place i, from those at the places after it.
-fn rest_at(table: &[u8], marks: &[u8], rests: &[u16; 256], i: usize) -> usize
+fn rest_at(table: &[u8], marks: &[u8], rests: &[u16; Limits::RECORDS], i: usize) -> usize
     requires { ⌜ Spot (now table) (now marks) i ⌝ }
     requires { ⌜ Sound (now table) ⌝ }
     requires { ⌜ Rests (now table) (now marks) (i + 1) (now rests) ⌝ }
@@ -103,12 +104,12 @@ fn rest_at(table: &[u8], marks: &[u8], rests: &[u16; 256], i: usize) -> usize
 }
 
 // How many records remain at each place, from the last place on.
-fn rests_of(table: &[u8], marks: &[u8]) -> [u16; 256]
+fn rests_of(table: &[u8], marks: &[u8]) -> [u16; Limits::RECORDS]
     requires { ⌜ Spot (now table) (now marks) 0 ⌝ }
     requires { ⌜ Sound (now table) ⌝ }
     ensures { λ r. ⌜ Rests (now (table .entry)) (now (marks .entry)) 0 r ⌝ }
 {
-    let mut rests = [0u16; 256];
+    let mut rests = [0u16; Limits::RECORDS];
     let mut i: usize = table.len() / Limits::RECORD_BYTES;
     while 0 < i {
         i -= 1;
@@ -163,17 +164,34 @@ fn copy_whole(table: &[u8], i: usize, out: &mut [u8], at: usize)
     );
 }
 
+// What remains of a construct that waits: all of it where it is marked.
+fn write_waiting(table: &[u8], marks: &[u8], i: usize, out: &mut [u8], at: usize)
+    requires { ⌜ Spot (now table) (now marks) i ⌝ }
+    requires { ⌜ Sound (now table) ⌝ }
+    requires { ⌜ (mayMark (kindAt (now table) i) ≡ true) × (recordBytes * (at + restSpan (now marks) (treeOf (now table) i)) ≤ length (now out)) ⌝ }
+    ensures { λ r. ⌜ now (out .exit) ≡ sets (now (out .entry)) (recordBytes * at) (restRecords (now (marks .entry)) (treeOf (now (table .entry)) i)) ⌝ }
+{
+    if marks[i] != 1 {
+        return;
+    }
+    copy_whole(table, i, out, at);
+}
+
 // What remains of the construct at place i, from record place `at` of a buffer on.
-fn write_rest(table: &[u8], marks: &[u8], rests: &[u16; 256], i: usize, out: &mut [u8], at: usize)
+fn write_rest(
+    table: &[u8],
+    marks: &[u8],
+    rests: &[u16; Limits::RECORDS],
+    i: usize,
+    out: &mut [u8],
+    at: usize,
+)
     requires { ⌜ Room (now table) (now marks) (now rests) i at (length (now out)) ⌝ }
     ensures { λ r. ⌜ now (out .exit) ≡ sets (now (out .entry)) (recordBytes * at) (restRecords (now (marks .entry)) (treeOf (now (table .entry)) i)) ⌝ }
 {
     let kind = table::kind_at(table, i);
     if may_mark(kind) {
-        if marks[i] != 1 {
-            return;
-        }
-        copy_whole(table, i, out, at);
+        write_waiting(table, marks, i, out, at);
         return;
     }
     let children = table::children_of(kind);
