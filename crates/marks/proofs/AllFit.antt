@@ -3,15 +3,14 @@
 use mathlib.Core.Path.{_≡_, refl, sym, ap, ap₂, subst, _∙_}
 use mathlib.Core.Bool.{Bool, true, false, not, _&&_, _||_}
 use mathlib.Core.List.{List, []}
-use mathlib.Core.Option.{none}
 use Prim.Native.Nat.{ℕ, zero, suc, _+_, _*_, _≤_, _<_}
 use native.Mathlib.Omega.{arith}
 use lib.Dec.{eqb, ltb, eqb→eq}
-use lib.ListN.{length, getD}
+use lib.ListN.{getD}
 use borrow.Author.Tests.{eq-eqb, ne-eqb, eqb-true, eqb-false, lt-ltb, le-ltb, ltb-true, ltb-false}
-use Rattle.rules.specs.Stages.{if_then_else_, failing, firstRefusal}
+use Rattle.rules.specs.Stages.{if_then_else_, failing}
 use Rattle.rules.specs.Table.{kindAt, spanAt, secondAt, recordsOf}
-use Rattle.rules.specs.Marks.{marked, mayMark, markRight, marksStages}
+use Rattle.rules.specs.Marks.{marked, mayMark, markRight}
 use Rattle.theory.specs.Logic.{clash}
 use Rattle.table.specs.Kinds.{childrenOf}
 use Rattle.table.specs.Places.{Place, treeOf}
@@ -19,8 +18,7 @@ use Rattle.table.proofs.Counting.{computed}
 use Rattle.table.proofs.Places.{kind-most, span-pos, down-place, down-falls, next-place, next-falls}
 use Rattle.table.proofs.Trees.{span-inside}
 use Rattle.table.specs.Found.{firstOf}
-use Rattle.table.specs.declared.Found.{Found}
-use Rattle.table.specs.declared.Found.the-variants.{At, Nothing}
+use Rattle.table.specs.declared.Found.the-variants.{Nothing}
 use Rattle.marks.specs.Fitting.{Spot, seenOf, misfitsHere, joinSeen, parFit, Fits, FitFrom, LetsPass}
 use Rattle.marks.specs.declared.fitting.Seen.{Seen}
 use Rattle.marks.proofs.Seeing.{sees-waiting, sees-leaf, sees-loop, sees-two, refuses-misfit}

@@ -40,16 +40,16 @@ listens m w (canrun i k) = false
 listens m w (atLoop i p q) = false
 listens m w (atPar i o p q) = false
 
+pub or-none : (x : Bool) → x ≡ (x || false)
+or-none true = refl
+or-none false = refl
+
 -- ---- where the marks fit, what listens is what stirs in the tree at rest
 
 module _ (w : ℕ → Source → ℕ → Bool) where
   abbrev stirsO : Option Tree → Bool
   stirsO none = false
   stirsO (some t) = stirs w t
-
-  or-none : (x : Bool) → x ≡ (x || false)
-  or-none true = refl
-  or-none false = refl
 
   seq-stirs : (i : ℕ) (q : Tree) (a b : Option Tree) → misfit i (isSome a && isSome b) ≡ [] → stirsO (restSeq i a q b) ≡ (stirsO a || stirsO b)
   unfolding stirs

@@ -1,7 +1,7 @@
 -- The query's walk over the records, past an every or a fin as a whole: it hears what the places of the tree listen for.
 -- Assumes nothing.
 use mathlib.Core.Path.{_≡_, refl, sym, ap, ap₂, _∙_}
-use mathlib.Core.Bool.{Bool, true, false, _&&_, _||_}
+use mathlib.Core.Bool.{Bool, true, false, _||_}
 use mathlib.Core.List.{List}
 use Prim.Native.Nat.{ℕ, _+_, _≤_, _<_}
 use native.Mathlib.Omega.{arith}
@@ -9,15 +9,14 @@ use lib.Bits.{bitOr}
 use lib.Dec.{eqb, ltb}
 use Rattle.rules.specs.Stages.{if_then_else_}
 use Rattle.rules.specs.Tree.{Tree, input, internal, assign, increase, copy, subtract, compare, divide, output, and, or}
-use Rattle.rules.specs.Table.{kindAt, nameAt, spanAt, secondAt, recordsOf}
-use Rattle.rules.specs.Marks.{marked}
+use Rattle.rules.specs.Table.{kindAt, spanAt, secondAt, recordsOf}
 use Rattle.table.specs.Kinds.{childrenOf}
 use Rattle.table.specs.Places.{Place, treeOf, SpanFor, Node, aNop, anAct, anAwait, anEmit, aBreak, anIf, aSeq, aLoop, anEvery, aPar, aFin}
 use Rattle.table.proofs.Places.{span-for, span-pos, root-span}
 use Rattle.table.proofs.Trees.{node-at}
 use Rattle.marks.specs.Awaited.{eventSet, heardBy, hearsAt, heardAt, nextAt}
 use Rattle.marks.proofs.EventSets.{same-set, no-events, both-sets}
-use Rattle.marks.proofs.Hearing.{listens}
+use Rattle.marks.proofs.Hearing.{listens, or-none}
 
 -- constructs side by side from place i to the end of the table
 pub data Onward (b : List ℕ) : ℕ → Type 0 where
@@ -29,10 +28,6 @@ unfoldable pub someOn : (b m : List ℕ) (e : ℕ) {i : ℕ} → Onward b i → 
 unfolding listens treeOf
 someOn b m e (ended h) = false
 someOn b m e {i} (going p q o) = listens m (heardBy e) (treeOf b i) || someOn b m e o
-
-or-none : (x : Bool) → x ≡ (x || false)
-or-none true = refl
-or-none false = refl
 
 or-assoc : (x y z : Bool) → ((x || y) || z) ≡ (x || (y || z))
 or-assoc true y z = refl

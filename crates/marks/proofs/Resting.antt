@@ -8,11 +8,10 @@ use Prim.Native.Nat.{ℕ, zero, suc, _+_, _≤_, _<_}
 use native.Mathlib.Omega.{arith}
 use lib.Dec.{eqb}
 use lib.ListN.{getD}
-use borrow.Author.Tests.{eq-eqb, ne-eqb, eqb-true, eqb-false}
+use borrow.Author.Tests.{eq-eqb, ne-eqb}
 use Rattle.rules.specs.Stages.{if_then_else_}
-use Rattle.rules.specs.Limits.{mostRecords}
 use Rattle.rules.specs.Tree.{Tree, Par, byPar, spanOf, headOf, assign, increase, copy, subtract, compare, divide, output, input, internal, and, or}
-use Rattle.rules.specs.Table.{kindAt, spanAt, secondAt, recordsOf}
+use Rattle.rules.specs.Table.{kindAt, spanAt, secondAt}
 use Rattle.rules.specs.Marks.{marked, mayMark, restSeq, restIf, restLoop, restPar, restOf}
 use Rattle.rules.specs.Remaining.{recordOf, recordsFor}
 use Rattle.table.specs.Kinds.{childrenOf}

@@ -187,12 +187,13 @@ fn fit_at(table: &[u8], marks: &[u8], fits: &[u8; Limits::RECORDS], i: usize) ->
     par_fit(kind, left, fits[table::second_at(table, i)])
 }
 
-// Where it is true, stage 8 lets the marks pass; where not, the walks have to look. One pass, from the last place on.
+// One pass from the last place on: where it answers true, stage 8 lets the marks pass; else the walks look for the place.
 fn all_fit(table: &[u8], marks: &[u8]) -> bool
     requires { ⌜ Spot (now table) (now marks) 0 ⌝ }
     ensures { λ r. ⌜ LetsPass (now (table .entry)) (now (marks .entry)) r ⌝ }
 {
     let records = table.len() / Limits::RECORD_BYTES;
+    // The array has no room for more.
     if Limits::RECORDS < records {
         return false;
     }
