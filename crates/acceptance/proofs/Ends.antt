@@ -8,14 +8,14 @@ use native.Mathlib.Omega.{arith}
 use lib.Dec.{T, eqb, ltb, leb, eqb→eq, leb→le}
 use borrow.Author.Tests.{lt-ltb, le-ltb, eq-eqb, ne-eqb, ltb-true, ltb-false}
 use Rattle.rules.specs.Stages.{if_then_else_}
-use Rattle.rules.specs.Tree.{Tree, assign, increase, copy, subtract, compare, divide, output, input, internal, and, or}
 use Rattle.rules.specs.Table.{kindAt, secondAt}
 use Rattle.rules.specs.Check.{mayEnd, mayBreak}
+use Rattle.theory.specs.Logic.{_also_}
 use Rattle.table.specs.Kinds.{childrenOf}
-use Rattle.table.specs.Places.{Place, treeOf, Node, aNop, anAct, anAwait, anEmit, aBreak, anIf, aSeq, aLoop, anEvery, aPar, aFin}
+use Rattle.table.specs.Places.{Place, treeOf}
 use Rattle.table.proofs.Counting.{computed}
 use Rattle.table.proofs.Places.{children-most, over-19}
-use Rattle.table.proofs.Trees.{node-at}
+use Rattle.table.proofs.Trees.{by-kind}
 
 -- whether either is enough, or both are asked
 abbrev joined : Bool → Bool → Bool → Bool
@@ -34,29 +34,7 @@ endsAt k b i =
 
 ends-at : (b : List ℕ) (i : ℕ) → Place b i → mayEnd (treeOf b i) ≡ endsAt (kindAt b i) b i
 unfolding mayEnd childrenOf
-ends-at b i p = go (node-at b i p)
-  where
-    go : {t : Tree} → Node b i t → mayEnd t ≡ endsAt (kindAt b i) b i
-    go (aNop e) = rw e
-    go (anAct assign e) = rw e
-    go (anAct increase e) = rw e
-    go (anAct copy e) = rw e
-    go (anAct subtract e) = rw e
-    go (anAct compare e) = rw e
-    go (anAct divide e) = rw e
-    go (anAct output e) = rw e
-    go (anAwait input e) = rw e
-    go (anAwait internal e) = rw e
-    go (anEmit e) = rw e
-    go (aBreak e) = rw e
-    go (anIf e) = rw e
-    go (aSeq e) = rw e
-    go (aLoop e) = rw e
-    go (anEvery input e) = rw e
-    go (anEvery internal e) = rw e
-    go (aPar and e) = rw e
-    go (aPar or e) = rw e
-    go (aFin e) = rw e
+ends-at b i p = by-kind b i p (λ k t. mayEnd t ≡ endsAt k b i) (refl also refl also refl also refl also refl also refl also refl also refl also refl also refl also refl also refl also refl also refl also refl also refl also refl also refl also refl also refl also tt)
 
 -- ---- may break
 
@@ -68,29 +46,9 @@ breaksBy (suc (suc n)) k b i = mayBreak (treeOf b (i + 1)) || mayBreak (treeOf b
 
 breaks-by : (b : List ℕ) (i : ℕ) → Place b i → (n : ℕ) → childrenOf (kindAt b i) ≡ n → mayBreak (treeOf b i) ≡ breaksBy n (kindAt b i) b i
 unfolding mayBreak childrenOf
-breaks-by b i p n e = subst (λ n. mayBreak (treeOf b i) ≡ breaksBy n (kindAt b i) b i) e (go (node-at b i p))
-  where
-    go : {t : Tree} → Node b i t → mayBreak t ≡ breaksBy (childrenOf (kindAt b i)) (kindAt b i) b i
-    go (aNop e) = rw e
-    go (anAct assign e) = rw e
-    go (anAct increase e) = rw e
-    go (anAct copy e) = rw e
-    go (anAct subtract e) = rw e
-    go (anAct compare e) = rw e
-    go (anAct divide e) = rw e
-    go (anAct output e) = rw e
-    go (anAwait input e) = rw e
-    go (anAwait internal e) = rw e
-    go (anEmit e) = rw e
-    go (aBreak e) = rw e
-    go (anIf e) = rw e
-    go (aSeq e) = rw e
-    go (aLoop e) = rw e
-    go (anEvery input e) = rw e
-    go (anEvery internal e) = rw e
-    go (aPar and e) = rw e
-    go (aPar or e) = rw e
-    go (aFin e) = rw e
+breaks-by b i p n e =
+    subst (λ n. mayBreak (treeOf b i) ≡ breaksBy n (kindAt b i) b i) e
+    (by-kind b i p (λ k t. mayBreak t ≡ breaksBy (childrenOf k) k b i) (refl also refl also refl also refl also refl also refl also refl also refl also refl also refl also refl also refl also refl also refl also refl also refl also refl also refl also refl also refl also tt))
 
 module _ (b : List ℕ) (i : ℕ) (p : Place b i) where
   pub breaks-leaf : childrenOf (kindAt b i) ≡ 0 → mayBreak (treeOf b i) ≡ eqb (kindAt b i) 11

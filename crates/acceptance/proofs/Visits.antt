@@ -8,12 +8,13 @@ use native.Mathlib.Omega.{arith}
 use lib.Dec.{T, eqb, leb}
 use borrow.Author.Tests.{ne-eqb}
 use Rattle.rules.specs.Limits.{mostLoops}
-use Rattle.rules.specs.Tree.{Tree, headOf, assign, increase, copy, subtract, compare, divide, output, input, internal, and, or}
+use Rattle.rules.specs.Tree.{headOf}
 use Rattle.rules.specs.Table.{kindAt}
 use Rattle.rules.specs.Check.{Around, Visit, mayEnd, walk}
+use Rattle.theory.specs.Logic.{_also_}
 use Rattle.table.specs.Kinds.{childrenOf}
-use Rattle.table.specs.Places.{Place, treeOf, Node, aNop, anAct, anAwait, anEmit, aBreak, anIf, aSeq, aLoop, anEvery, aPar, aFin}
-use Rattle.table.proofs.Trees.{node-at}
+use Rattle.table.specs.Places.{Place, treeOf}
+use Rattle.table.proofs.Trees.{by-kind}
 use Rattle.acceptance.specs.Walks.{inner, visitAt, belowAt, failsOf, passes}
 
 -- ---- the walk from a place
@@ -23,31 +24,9 @@ walkOf k b a i = record { place = i; kind = k; around = a; endless = eqb k 14 &&
 
 walk-of : (b : List ℕ) (i : ℕ) → Place b i → (a : Around) → walk a (treeOf b i) ≡ walkOf (kindAt b i) b a i
 unfolding walk inner childrenOf headOf
-walk-of b i p a = go (node-at b i p)
-  where
-    go : {t : Tree} → Node b i t → walk a t ≡ walkOf (kindAt b i) b a i
-    go (aNop e) = rw e
-    go (anAct assign e) = rw e
-    go (anAct increase e) = rw e
-    go (anAct copy e) = rw e
-    go (anAct subtract e) = rw e
-    go (anAct compare e) = rw e
-    go (anAct divide e) = rw e
-    go (anAct output e) = rw e
-    go (anAwait input e) = rw e
-    go (anAwait internal e) = rw e
-    go (anEmit e) = rw e
-    go (aBreak e) = rw e
-    go (anIf e) = rw e
-    go (aSeq e) = rw e
-    go (aLoop e) = rw e
-    go (anEvery input e) = rw e
-    go (anEvery internal e) = rw e
-    go (aPar and e) = rw e
-    go (aPar or e) = rw e
-    go (aFin e) = rw e
+walk-of b i p a = by-kind b i p (λ k t. walk a t ≡ walkOf k b a i) (refl also refl also refl also refl also refl also refl also refl also refl also refl also refl also refl also refl also refl also refl also refl also refl also refl also refl also refl also refl also tt)
 
--- THE law of the stages that walk
+-- the law of the stages that walk
 pub walk-at : (b : List ℕ) (i : ℕ) → Place b i → (a : Around) → walk a (treeOf b i) ≡ visitAt b a i ∷ belowAt (childrenOf (kindAt b i)) b (inner (kindAt b i) a) i
 unfolding visitAt
 walk-at b i p a = walk-of b i p a

@@ -6,7 +6,8 @@ use mathlib.Core.List.{List}
 use Prim.Native.Nat.{ℕ, suc, _+_, _-_, _<_, max}
 use native.Mathlib.Omega.{arith}
 use Rattle.rules.specs.Tree.{Tree}
-use Rattle.theory.specs.Round.{Heard, heard, round, internalEvent, onward, pushed, rounds, rounds-none, rounds-end, rounds-pop, rounds-push}
+use Rattle.rules.specs.Step.{internalEvent}
+use Rattle.theory.specs.Round.{Heard, heard, round, onward, pushed, rounds, rounds-none, rounds-end, rounds-pop, rounds-push}
 use Rattle.memory.specs.Arrays.{Arrays, tick}
 use Rattle.engine.specs.Walks.{arrayOps}
 

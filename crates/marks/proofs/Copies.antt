@@ -14,10 +14,11 @@ use Rattle.rules.specs.Number.{num32, bytes32}
 use Rattle.rules.specs.Tree.{Tree, nop, act, await, emit, break, ifvar, seq, loop, every, par, fin, canrun, atLoop, atPar, head, headOf, spanOf, input, internal, assign, increase, copy, subtract, compare, divide, output, and, or}
 use Rattle.rules.specs.Table.{byteAt, kindAt, nameAt, numberAt, spanAt, secondAt, inRange, nought, inKindsTable}
 use Rattle.rules.specs.Remaining.{recordOf, recordsFor}
+use Rattle.theory.specs.Logic.{_also_}
 use Rattle.table.specs.Kinds.{childrenOf}
 use Rattle.table.specs.Places.{Place, treeOf, SpanFor, Node, aNop, anAct, anAwait, anEmit, aBreak, anIf, aSeq, aLoop, anEvery, aPar, aFin}
 use Rattle.table.proofs.Places.{span-for, span-pos, down-place, down-falls, next-place, next-falls}
-use Rattle.table.proofs.Trees.{node-at, tree-span}
+use Rattle.table.proofs.Trees.{by-kind, node-at, tree-span}
 use Rattle.marks.specs.Fitting.{Sound}
 use Rattle.marks.proofs.Ranges.{name-range, number-range, nought-name, nought-number}
 use Rattle.marks.proofs.Stores.{sums}
@@ -147,29 +148,7 @@ module _ (b : List ℕ) (sound : Sound b) (bytes : Bytes b) where
 
   records-below : (i : ℕ) → Place b i → recordsFor (treeOf b i) ≡ recordOf (treeOf b i) ++ belowAt (childrenOf (kindAt b i)) i
   unfolding recordsFor recordOf belowAt childrenOf
-  records-below i p = go (node-at b i p)
-    where
-      go : {u : Tree} → Node b i u → recordsFor u ≡ recordOf u ++ belowAt (childrenOf (kindAt b i)) i
-      go (aNop e) = rw e
-      go (anAct assign e) = rw e
-      go (anAct increase e) = rw e
-      go (anAct copy e) = rw e
-      go (anAct subtract e) = rw e
-      go (anAct compare e) = rw e
-      go (anAct divide e) = rw e
-      go (anAct output e) = rw e
-      go (anAwait input e) = rw e
-      go (anAwait internal e) = rw e
-      go (anEmit e) = rw e
-      go (aBreak e) = rw e
-      go (anIf e) = rw e
-      go (aSeq e) = rw e
-      go (aLoop e) = rw e
-      go (anEvery input e) = rw e
-      go (anEvery internal e) = rw e
-      go (aPar and e) = rw e
-      go (aPar or e) = rw e
-      go (aFin e) = rw e
+  records-below i p = by-kind b i p (λ k t. recordsFor t ≡ recordOf t ++ belowAt (childrenOf k) i) (refl also refl also refl also refl also refl also refl also refl also refl also refl also refl also refl also refl also refl also refl also refl also refl also refl also refl also refl also refl also tt)
 
   below : (c i : ℕ) → SpanFor c b i → (1 ≤ c → recordsFor (treeOf b (i + 1)) ≡ part b (i + 1) (spanAt b (i + 1))) → (2 ≤ c → recordsFor (treeOf b (secondAt b i)) ≡ part b (secondAt b i) (spanAt b (secondAt b i))) →
       part b i 1 ++ belowAt c i ≡ part b i (spanAt b i)

@@ -5,14 +5,14 @@ use mathlib.Core.Bool.{Bool, true, false, not, _||_}
 use mathlib.Core.List.{List, [], _∷_, _++_}
 use mathlib.Core.Option.{Option, none, some}
 use Prim.Native.Nat.{ℕ, _+_, _≤_, _<_}
-use native.Mathlib.Omega.{arith}
 use lib.Dec.{eqb}
 use lib.ListN.{length}
-use borrow.Author.Tests.{eq-eqb, ne-eqb, eqb-true, eqb-false}
+use borrow.Author.Tests.{eq-eqb, ne-eqb}
 use Rattle.rules.specs.Stages.{if_then_else_, isSome, failing, refusal, orElse, firstRefusal}
 use Rattle.rules.specs.Tree.{Tree, Par, assign, increase, copy, subtract, compare, divide, output, input, internal, and, or}
 use Rattle.rules.specs.Table.{kindAt, spanAt, secondAt, recordsOf, programOf}
 use Rattle.rules.specs.Marks.{marked, mayMark, markRight, marksStages, restSeq, restIf, restLoop, restPar, restOf, misfit, parMisfit, misfits}
+use Rattle.theory.specs.Accepted.{marks-pass}
 use Rattle.table.specs.Kinds.{childrenOf}
 use Rattle.table.specs.Places.{Place, treeOf, Node, aNop, anAct, anAwait, anEmit, aBreak, anIf, aSeq, aLoop, anEvery, aPar, aFin}
 use Rattle.table.proofs.Places.{down, next}
@@ -158,8 +158,4 @@ module _ (b m : List ℕ) (h : length m ≡ recordsOf b) where
 
 -- what stage 8 lets pass is one mark for each record
 pub sized : (b m : List ℕ) → firstRefusal (marksStages b m) ≡ none → length m ≡ recordsOf b
-sized b m h = go (eqb (length m) (recordsOf b)) refl
-  where
-    go : (x : Bool) → eqb (length m) (recordsOf b) ≡ x → length m ≡ recordsOf b
-    go true e = eqb-true (length m) (recordsOf b) e
-    go false e = let q = refuses-length b m (eqb-false (length m) (recordsOf b) e) in let z : _≡_ {A = ℕ} 0 1 = cc in absurd (omega arith)
+sized b m h = marks-pass b m h .long

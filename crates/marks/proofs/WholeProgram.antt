@@ -3,7 +3,7 @@
 use mathlib.Core.Path.{_≡_, refl, sym, ap, _∙_}
 use mathlib.Core.List.{List}
 use mathlib.Core.Option.{Option, none, some}
-use Prim.Native.Nat.{ℕ, _+_, _*_, _≤_, _<_}
+use Prim.Native.Nat.{ℕ, _+_, _*_, _≤_}
 use native.Mathlib.Omega.{arith}
 use lib.ListN.{length, getD}
 use lib.Seq.{sets}
@@ -19,7 +19,6 @@ use Rattle.marks.specs.Rest.{spanO, recordsO, restSpan, restRecords, hea
 use Rattle.marks.proofs.Spans.{something}
 use Rattle.marks.proofs.Stores.{stored-front}
 use Rattle.marks.proofs.Copies.{records-length}
-use Rattle.marks.proofs.Resting.{span-most}
 
 none-left : (o : Option Tree) → spanO o ≡ 0 → orNop o ≡ nop 0
 none-left none e = refl
@@ -61,9 +60,6 @@ module _ (b m rests : List ℕ) (sound : Sound b) (known : Rests b m 0 rests) {s
     pub span-something : s ≡ spanOf (atRest m (programOf b))
     unfolding atRest
     span-something = span-rest ∙ some-span (restOf m (programOf b)) (λ z. e (span-rest ∙ z))
-
-    pub span-fits : s < 65536
-    span-fits = span-most b m 0 (sound .root) sound span-root
 
     records-something : restRecords m (treeOf b 0) ≡ recordsFor (atRest m (programOf b))
     unfolding restRecords atRest treeOf programOf

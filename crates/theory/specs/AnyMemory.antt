@@ -8,10 +8,10 @@ use lib.IntN.{ℤ}
 use lib.ListN.{getD, set}
 use Rattle.rules.specs.Stages.{if_then_else_}
 use Rattle.rules.specs.Tree.{Act, Par, Tree, act, and, atLoop, atPar, await, break, canrun, emit, every, fin, ifvar, loop, nop, or, par, seq}
-use Rattle.rules.specs.Step.{Event, wakes}
+use Rattle.rules.specs.Step.{Event, inputEvent, internalEvent, wakes}
 use Rattle.theory.specs.Ranges.{Ranged, RightAct, RightEmit, RightTest}
 use Rattle.theory.specs.State.{Ops, How, idle, ended, broke, waiting, ringing, Walk, walk, Swept, swept, Then, tickIf, sweepOwn, sweepEither, sweepBoth, sweepHeld, settle, sweep, execSeq, execLoop, thenRight, execPar, exec, resumeIf, resumeSeq, resumeLoop, takeTurn, rightAlone, resumeBoth, resumeHeld, resume, awake, still}
-use Rattle.theory.specs.Round.{Heard, heard, heardOf, Round, round, turnOf, inputEvent, internalEvent, onward, pushed, rounds, react, begin}
+use Rattle.theory.specs.Round.{Heard, heard, heardOf, Round, round, turnOf, onward, pushed, rounds, react, begin}
 
 -- the operations keep a relation of memories, on what the kinds table allows
 pub record Alike {M N : Type 0} (o : Ops M) (q : Ops N) (R : M → N → Type 0) : Type 0 where

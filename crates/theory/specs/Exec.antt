@@ -13,7 +13,7 @@ use Rattle.rules.specs.Step.{clear, front, isDone}
 use Rattle.theory.specs.Big.{Fate, ends, breaks, waits, rings, Out, result, later, cleared, brokenOff, seqF, loopF, rightF, parF}
 use Rattle.theory.specs.Big as Big
 use Rattle.theory.specs.Sound.{Sound, never-ends}
-use Rattle.theory.specs.State.{Counted, counting, How, idle, ended, broke, waiting, ringing, Walk, walk, execSeq, execLoop, afterRight, execPar, exec}
+use Rattle.theory.specs.State.{Counted, counting, How, ended, broke, waiting, ringing, Walk, walk, execSeq, execLoop, afterRight, execPar, exec}
 use Rattle.theory.specs.Frame.{Blank, Within, Room, Part, Stem, Fork, Laid, within-refl, within-trans, blank-same, room-within, part-blank, part-within, part-room, apart-same, set-here, set-within, set-apart, leaf-own, stem-own, stem-kept, stem-blank, body-part, body-off, fork-own, fork-blank, left-part, right-part, left-off, right-off, left-right, right-left, left-kept, right-kept}
 use Rattle.theory.specs.Shows.{Shows, await-waits, emit-turn, if-left, if-right, seq-left, seq-right, loop-in, every-waits, fin-waits, par-both, and-left, and-right, par-held, shows-same}
 use Rattle.theory.specs.Sweep.{sweeps}

@@ -1,7 +1,7 @@
 -- The start and the reaction of a table on the engine's states are those of the rules.
 use mathlib.Core.Path.{_≡_, refl, sym, ap, subst, _∙_}
 use mathlib.Core.Bool.{true, false, _||_}
-use mathlib.Core.List.{List, [], _∷_}
+use mathlib.Core.List.{List}
 use mathlib.Core.Option.{none}
 use Prim.Native.Nat.{ℕ, zero, suc, _≤_, _<_}
 use native.Mathlib.Omega.{arith}
@@ -9,28 +9,27 @@ use lib.Dec.{T}
 use lib.IntN.{ℤ, pos}
 use lib.ListN.{length, getD}
 use borrow.Author.Tests.{ne-eqb}
-use Rattle.rules.specs.Stages.{Stage, failing, firstRefusal, stage}
+use Rattle.rules.specs.Stages.{firstRefusal}
 use Rattle.rules.specs.Limits.{Announced}
 use Rattle.rules.specs.Tree.{Source, Tree, act, atLoop, atPar, await, break, canrun, emit, every, fin, ifvar, input, internal, loop, nop, par, seq}
 use Rattle.rules.specs.Table.{programOf, recordsOf}
 use Rattle.rules.specs.Check.{accepted, announced, check}
-use Rattle.rules.specs.Marks.{atRest, lengthStage, markRight, marksOf, marksStages, misfits, waits}
+use Rattle.rules.specs.Marks.{atRest, marksOf, marksStages, waits}
 use Rattle.rules.specs.Memory.{Memory}
-use Rattle.rules.specs.Step.{blocked, front, isDone, wakes}
+use Rattle.rules.specs.Step.{blocked, front, inputEvent, isDone, wakes}
 use Rattle.rules.specs.Step as Rules
 use Rattle.rules.specs.Run.{Ran, reaction, start}
 use Rattle.theory.specs.Logic.{or-cases}
 use Rattle.theory.specs.Again.{member}
 use Rattle.theory.specs.WrittenMarks.{bit, written}
 use Rattle.theory.specs.Decode.{markable}
-use Rattle.theory.specs.Stages.{none-fails, next}
-use Rattle.theory.specs.Accepted.{Accepted, accepts, fitting}
+use Rattle.theory.specs.Accepted.{Accepted, accepts, marks-pass}
 use Rattle.theory.specs.DemandProof.{reaction-ends, start-ends}
 use Rattle.theory.specs.Big as Big
 use Rattle.theory.specs.Follow.{begun, big, bigReaction, bigStart, oneStep, reaction-big, start-big}
 use Rattle.theory.specs.Sound.{Sound, sound}
 use Rattle.theory.specs.State.{Ops, Counted, counted, counting, exec}
-use Rattle.theory.specs.Round.{Round, begin, eventOf, inputEvent, pushed, react, turnOf}
+use Rattle.theory.specs.Round.{Round, begin, eventOf, pushed, react, turnOf}
 use Rattle.theory.specs.Frame.{At, Laid, Room, lays}
 use Rattle.theory.specs.Exec.{execs}
 use Rattle.theory.specs.Rests.{Stands, marks-stand, shows-marks, stands-same}
@@ -128,16 +127,10 @@ module _ (b : List ℕ) (a : Announced) (c : check b ≡ accepted a) (l : List �
   -- ---- a reaction
 
   module _ (m : List ℕ) (f : firstRefusal (marksStages b m) ≡ none) (agree : (j : ℕ) → j < recordsOf b → getD l j 0 ≡ getD m j 0) where
-    right-marks : (j : ℕ) → j < recordsOf b → T (markRight b m j)
-    unfolding marksStages
-    right-marks j h =
-        let s2 : Stage = stage 8 (failing (markRight b m) 0 (recordsOf b)) in
-        let s3 : Stage = stage 8 (misfits m p) in
-        let p1 = next (lengthStage b m) (s2 ∷ s3 ∷ []) f in
-        none-fails (markRight b m) 0 (recordsOf b) (next s2 (s3 ∷ []) (p1 .later) .clean) j (omega arith) (omega arith)
-
     stands : Stands l p (atRest m p)
-    stands = stands-same zp (record { same-at = λ j h. agree j (at-place j h) }) (marks-stand (markable b) m p kp zp (k .waiting) (λ j h. right-marks j (at-place j h)) (fitting b m f))
+    stands =
+        let g = marks-pass b m f in
+        stands-same zp (record { same-at = λ j h. agree j (at-place j h) }) (marks-stand (markable b) m p kp zp (k .waiting) (λ j h. g .right j (at-place j h)) (g .fits))
 
     react-is : (n : ℕ) (x : List ℤ) (e : ℕ) (z : ℤ) → big n 1 (Rules.awake (wakes (inputEvent e)) (atRest m p)) (begun x z) oneStep .last .level ≡ 0 →
         RoundIs p l (react counting p n e l (counted (begun x z) 0)) (big n 1 (Rules.awake (wakes (inputEvent e)) (atRest m p)) (begun x z) oneStep)
@@ -185,12 +178,3 @@ module _ {M : Type 0} (q : Ops M) (R : Counted → M → Type 0) (like : Alike c
       finish b a c l fits (start b x) (d .idles)
       (subst (λ (s : Ran). RoundIs p l (begin counting p o l (counted (begun x (pos 0)) 0)) s) (sym w) (begin-is b a c l fits idle o x (subst (λ (s : Ran). s .last .level ≡ 0) w (d .ground))))
       (begin-same counting q R like p (accepts b a c .ranged) o l (counted (begun x (pos 0)) 0) n g)
-
--- those of the rules do
-pub own-memory : Alike counting counting (λ (c d : Counted). c ≡ d)
-own-memory = record {
-  ticks = λ m n e. ap (counting .tick) e;
-  acting = λ a v k r m n e. ap (counting .acts a v k) e;
-  emitting = λ v y r m n e. ap (counting .rings v y) e;
-  testing = λ v r m n e. ap (counting .test v) e;
-}

@@ -1,6 +1,6 @@
 -- At rest states are marks: marks that fit show the tree at rest, and a blocked tree shown is read off its states.
 use mathlib.Core.Path.{_≡_, refl, sym, ap, subst, _∙_}
-use mathlib.Core.Bool.{Bool, true, false, _&&_, _||_}
+use mathlib.Core.Bool.{Bool, true, false, _&&_, _||_, or-false}
 use mathlib.Core.List.{List, [], _∷_, _++_}
 use mathlib.Core.Option.{Option, none, some}
 use Prim.Native.Nat.{ℕ}
@@ -16,7 +16,7 @@ use Rattle.rules.specs.Step.{blocked}
 use Rattle.theory.specs.Logic.{clash, both-left, both-right, or-cases, never, T→true}
 use Rattle.theory.specs.Program.{Calm}
 use Rattle.theory.specs.Residue.{calm-open}
-use Rattle.theory.specs.Again.{member, member-append}
+use Rattle.theory.specs.Again.{member, member-one, member-append}
 use Rattle.theory.specs.Decode.{Waiting}
 use Rattle.theory.specs.Marks.{parts}
 use Rattle.theory.specs.WrittenMarks.{bit}
@@ -166,14 +166,10 @@ stem-cases {A = A} {p = p} {i = i} z j h a b = go (lies i (spanOf p) 0 j (record
 no-low : (m : ℕ) → T (ltb m 0) → ⊥
 no-low m h = subst T (le-ltb m 0 (omega arith)) h
 
-here : (j i : ℕ) → T (member j (i ∷ [])) → j ≡ i
-unfolding member
-here j i t = or-cases (eqb j i) false (eqb→eq j i) (λ x. absurd x) t
-
 -- a blocked tree waits at places of its own
 waits-at : (a : Tree) {u : Tree} {l : List ℕ} → Sound a → Laid a → Shows l a u → T (blocked 0 u) → (j : ℕ) → T (member j (waits u)) → At a j
 unfolding Sound Laid blocked waits
-waits-at (await i s e) k z (await-waits h) c j t = rw (here j i t) (leaf-own z)
+waits-at (await i s e) k z (await-waits h) c j t = rw (member-one j i t) (leaf-own z)
 waits-at (await i s e) k z (await-woken h) c j t = absurd c
 waits-at (emit i e y) k z (emit-turn {m = m} h) c j t = absurd (no-low m c)
 waits-at (ifvar i v p q) k z (if-left h a b) c j t = part-at (left-part (z .0)) j (waits-at p (k .0) (z .1) a c j t)
@@ -181,7 +177,7 @@ waits-at (ifvar i v p q) k z (if-right h a b) c j t = part-at (right-part (z .0)
 waits-at (seq i p q) k z (seq-left h a b) c j t = part-at (left-part (z .0)) j (waits-at p (k .0) (z .1) a c j t)
 waits-at (seq i p q) k z (seq-right h a b) c j t = part-at (right-part (z .0)) j (waits-at q (k .1) (z .2) b c j t)
 waits-at (loop i p) k z (loop-in h a) c j t = part-at (body-part (z .0)) j (waits-at p (k .1) (z .1) a c j t)
-waits-at (every i s e p) k z (every-waits h b) c j t = rw (here j i t) (stem-own (z .0))
+waits-at (every i s e p) k z (every-waits h b) c j t = rw (member-one j i t) (stem-own (z .0))
 waits-at (every i s e p) k z (every-woken h b) c j t = absurd (calm-open 0 p (k .1) c)
 waits-at (par i o p q) k z (par-both {u = u} {v = v} h a b) c j t =
     or-cases (member j (waits u)) (member j (waits v))
@@ -192,7 +188,7 @@ waits-at (par i and p q) k z (and-left h a b) c j t = part-at (left-part (z .0))
 waits-at (par i and p q) k z (and-right h a b) c j t = part-at (right-part (z .0)) j (waits-at q (k .1) (z .2) b c j t)
 waits-at (par i o p q) k z (par-held {m = m} {u = u} h a b) c j t = absurd (no-low m (both-right (blocked 0 u) (ltb m 0) c))
 waits-at (par i and p q) k z (and-turn {m = m} h a b) c j t = absurd (no-low m c)
-waits-at (fin i p) k z (fin-waits h b) c j t = rw (here j i t) (stem-own (z .0))
+waits-at (fin i p) k z (fin-waits h b) c j t = rw (member-one j i t) (stem-own (z .0))
 
 module _ (l : List ℕ) (j : ℕ) where
   -- the state at j is the mark that a list of places says
@@ -207,7 +203,7 @@ module _ (l : List ℕ) (j : ℕ) where
   on i e x = rw (x, e, T→true (eqb i i) (Dec′.eqb-refl i))
 
   waiter : {t p : Tree} {i : ℕ} → Stem t i p → getD l i 0 ≡ 1 → Blank l p → At t j → MarkIs (i ∷ [])
-  waiter {i = i} z e b h = stem-cases z j h (on i e) (λ x. off (i ∷ []) (b .zero-at j x) (λ t. body-off z (rw (here j i t) at x)))
+  waiter {i = i} z e b h = stem-cases z j h (on i e) (λ x. off (i ∷ []) (b .zero-at j x) (λ t. body-off z (rw (member-one j i t) at x)))
 
   -- one side lives
   module _ {t p q : Tree} {i : ℕ} (z : Fork t i p q) (e : getD l i 0 ≡ 0) (h : At t j) (ws : List ℕ) where
@@ -221,15 +217,11 @@ module _ (l : List ℕ) (j : ℕ) where
     right-marks b f g = fork-cases z j h (λ x. off ws (at-own x) (λ t. right-off z (rw x at (f t)))) (λ x. off ws (b .zero-at j x) (λ t. right-left z .disjoint j (f t) x)) g
 
   -- both live
-  or-off : (a b : Bool) → (T b → ⊥) → (a || b) ≡ a
-  or-off true b h = refl
-  or-off false b h = never b h
-
   both-marks : {t p q : Tree} {i : ℕ} (z : Fork t i p q) → getD l i 0 ≡ 0 → At t j → (ws vs : List ℕ) → (T (member j ws) → At p j) → (T (member j vs) → At q j) → (At p j → MarkIs ws) → (At q j → MarkIs vs) → MarkIs (ws ++ vs)
   both-marks z e h ws vs f g a b =
       fork-cases z j h
       (λ x. off (ws ++ vs) (rw x e) (λ t. or-cases (member j ws) (member j vs) (λ y. left-off z (rw x at (f y))) (λ y. right-off z (rw x at (g y))) (subst T (member-append j ws vs) t)))
-      (λ x. a x ∙ ap bit (sym (member-append j ws vs ∙ or-off (member j ws) (member j vs) (λ y. left-right z .disjoint j x (g y)))))
+      (λ x. a x ∙ ap bit (sym (member-append j ws vs ∙ ap (λ (c : Bool). member j ws || c) (never (member j vs) (λ y. left-right z .disjoint j x (g y))) ∙ or-false (member j ws))))
       (λ x. b x ∙ ap bit (sym (member-append j ws vs ∙ ap (λ (c : Bool). c || member j vs) (never (member j ws) (λ y. left-right z .disjoint j (f y) x)))))
 
 -- the states of a blocked tree are its marks

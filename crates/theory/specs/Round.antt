@@ -1,15 +1,13 @@
 -- The round on the engine's state: pushes and pops until level 0, the whole program resumed after each.
+use mathlib.Core.Path.{_≡_, refl}
 use mathlib.Core.Bool.{Bool, true, false}
 use mathlib.Core.List.{List}
-use mathlib.Core.Path.{_≡_, refl}
-use Prim.Native.Nat.{ℕ, zero, suc, _+_, _-_, _≤_, max}
-use native.Mathlib.Omega.{arith}
+use Prim.Native.Nat.{ℕ, zero, suc, _+_, _-_, max}
 use lib.Dec.{eqb}
 use borrow.Author.Tests.{eq-eqb, ne-eqb}
 use Rattle.rules.specs.Stages.{if_then_else_}
-use Rattle.rules.specs.Tree.{Tree, input, internal}
-use Rattle.rules.specs.Step.{Event, wakes}
-use Rattle.theory.specs.Logic.{clash}
+use Rattle.rules.specs.Tree.{Tree}
+use Rattle.rules.specs.Step.{Event, inputEvent, internalEvent, wakes}
 use Rattle.theory.specs.State.{Ops, How, idle, ended, broke, waiting, ringing, Walk, exec, resume, awake, still}
 
 -- the state of a turn at a level
@@ -46,17 +44,6 @@ pub record Round (M : Type 0) : Type 0 where
 
 abbrev pub round : {M : Type 0} → Bool → ℕ → ℕ → List ℕ → M → Round M
 round b c h l m = record { grounded = b; emitted = c; highest = h; states = l; memory = m }
-
-abbrev pub internalEvent : ℕ → Event
-internalEvent e = record { source = internal; name = e }
-
-abbrev pub inputEvent : ℕ → Event
-inputEvent e = record { source = input; name = e }
-
--- the counts are c and h at least
-pub record Grows {M : Type 0} (c h : ℕ) (r : Round M) : Type 0 where
-  pub emitted-grows : c ≤ r .emitted
-  pub highest-grows : h ≤ r .highest
 
 module _ {M : Type 0} (o : Ops M) (p : Tree) where
   -- the whole program runs on at level v; where it is blocked, nothing is left to do
@@ -110,39 +97,3 @@ module _ {M : Type 0} (o : Ops M) (p : Tree) where
     pub rounds-push : (e ≡ 0 → ⊥) → rounds (suc f) e v c h l m ≡ (let r = pushed (internalEvent e) (v + 1) l (o .tick m) in rounds f (r .event) (v + 1) (c + 1) (max h (v + 1)) (r .states) (r .memory))
     unfolding rounds
     rounds-push x = rw (ne-eqb e 0 x)
-
-  -- ---- the whole round
-
-  -- once it is grounded, more fuel changes nothing
-  more-turn : (x y : Bool) (r : Round M) (s s′ t t′ : Round M) → (s .grounded ≡ true → s′ ≡ s) → (t .grounded ≡ true → t′ ≡ t) → (if x then (if y then r else s) else t) .grounded ≡ true → (if x then (if y then r else s′) else t′) ≡ (if x then (if y then r else s) else t)
-  more-turn true true r s s′ t t′ a b e = refl
-  more-turn true false r s s′ t t′ a b e = a e
-  more-turn false y r s s′ t t′ a b e = b e
-
-  pub rounds-more : (f g e v c h : ℕ) (l : List ℕ) (m : M) → rounds f e v c h l m .grounded ≡ true → rounds (f + g) e v c h l m ≡ rounds f e v c h l m
-  unfolding rounds
-  rounds-more zero g e v c h l m x = clash (cc)
-  rounds-more (suc f) g e v c h l m x =
-      let s : suc f + g ≡ suc (f + g) = omega arith in
-      let a = onward (v - 1) l (o .tick m) in
-      let b = pushed (internalEvent e) (v + 1) l (o .tick m) in
-      rw s (more-turn (eqb e 0) (eqb v 1) (round true c h l (o .tick m))
-      (rounds f (a .event) (v - 1) c h (a .states) (a .memory)) (rounds (f + g) (a .event) (v - 1) c h (a .states) (a .memory))
-      (rounds f (b .event) (v + 1) (c + 1) (max h (v + 1)) (b .states) (b .memory)) (rounds (f + g) (b .event) (v + 1) (c + 1) (max h (v + 1)) (b .states) (b .memory))
-      (rounds-more f g (a .event) (v - 1) c h (a .states) (a .memory))
-      (rounds-more f g (b .event) (v + 1) (c + 1) (max h (v + 1)) (b .states) (b .memory)) x)
-
-  -- the counts only grow
-  grows-if : {c h : ℕ} (b : Bool) {r s : Round M} → Grows c h r → Grows c h s → Grows c h (if b then r else s)
-  grows-if true x y = x
-  grows-if false x y = y
-
-  pub rounds-grow : (f e v c h : ℕ) (l : List ℕ) (m : M) → Grows c h (rounds f e v c h l m)
-  unfolding rounds
-  rounds-grow zero e v c h l m = record { emitted-grows = omega arith; highest-grows = omega arith }
-  rounds-grow (suc f) e v c h l m =
-      let a = onward (v - 1) l (o .tick m) in
-      let b = pushed (internalEvent e) (v + 1) l (o .tick m) in
-      let y = rounds-grow f (b .event) (v + 1) (c + 1) (max h (v + 1)) (b .states) (b .memory) in
-      grows-if (eqb e 0) (grows-if (eqb v 1) (record { emitted-grows = omega arith; highest-grows = omega arith }) (rounds-grow f (a .event) (v - 1) c h (a .states) (a .memory)))
-      (record { emitted-grows = omega (arith, y .emitted-grows); highest-grows = omega (arith, y .highest-grows) })

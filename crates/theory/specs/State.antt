@@ -2,7 +2,7 @@
 -- At a record's place: 0 idle, 1 waiting (the mark), 2 woken, 3 + m a @canrun of level m: an emit's own, or that of an and or or whose right has not started.
 use mathlib.Core.Bool.{Bool, true, false, not, _&&_, _||_}
 use mathlib.Core.List.{List}
-use Prim.Native.Nat.{ℕ, suc, _+_}
+use Prim.Native.Nat.{ℕ, suc}
 use lib.Dec.{eqb}
 use lib.IntN.{ℤ}
 use lib.ListN.{getD, set}

@@ -1,13 +1,13 @@
 -- The round on states is the round of big steps.
 use mathlib.Core.Path.{_≡_, refl, sym, ap, subst, _∙_}
-use mathlib.Core.Bool.{Bool, true, false, not}
+use mathlib.Core.Bool.{Bool, true, false}
 use mathlib.Core.List.{List}
 use Prim.Native.Nat.{ℕ, zero, suc, _+_, _-_, _≤_, max}
 use native.Mathlib.Omega.{arith}
 use Rattle.rules.specs.Stages.{if_then_else_}
 use Rattle.rules.specs.Tree.{Tree, nop}
 use Rattle.rules.specs.Memory.{Memory}
-use Rattle.rules.specs.Step.{Event, Front, front, isDone, wakes}
+use Rattle.rules.specs.Step.{Event, Front, front, internalEvent, isDone, wakes}
 use Rattle.rules.specs.Step as Rules
 use Rattle.rules.specs.Run.{Count, Ran}
 use Rattle.theory.specs.Logic.{clash}
@@ -17,7 +17,7 @@ use Rattle.theory.specs.Big as Big
 use Rattle.theory.specs.Follow.{big, calmAt, turn, popped, pushed}
 use Rattle.theory.specs.Sound.{Sound}
 use Rattle.theory.specs.State.{Counted, counting, How, awake, still, resume}
-use Rattle.theory.specs.Round.{turnOf, eventOf, Heard, heard, heardOf, Round, round, internalEvent, onward, rounds, rounds-end, rounds-pop, rounds-push}
+use Rattle.theory.specs.Round.{turnOf, eventOf, Heard, heard, heardOf, Round, onward, rounds, rounds-end, rounds-pop, rounds-push}
 use Rattle.theory.specs.Round as States
 use Rattle.theory.specs.Frame.{Blank, Within, Room, Laid, within-refl, within-trans, room-within}
 use Rattle.theory.specs.Shows.{Shows}

@@ -13,8 +13,7 @@ use Rattle.rules.specs.Memory.{Memory}
 use Rattle.rules.specs.Step.{blocked}
 use Rattle.rules.specs.Step as Rules
 use Rattle.theory.specs.Logic.{clash, never}
-use Rattle.theory.specs.Program.{Calm}
-use Rattle.theory.specs.Residue.{calm-open}
+use Rattle.theory.specs.Residue.{calm-open, calm-same}
 use Rattle.theory.specs.Progress.{Live}
 use Rattle.theory.specs.Big.{Out, ends, result, seqF, againF, rightF, parF, waits}
 use Rattle.theory.specs.Big as Big
@@ -46,24 +45,6 @@ module _ (w : ℕ → Source → ℕ → Bool) where
   idle-awake (canrun i k) l z b = refl
   idle-awake (atLoop i p q) l z b = refl
   idle-awake (atPar i c p q) l z b = refl
-
-  -- a calm tree hears nothing
-  calm-same : (t : Tree) → Calm t → Rules.awake w t ≡ t
-  unfolding Rules.awake Calm
-  calm-same (nop i) k = refl
-  calm-same (act i a v z) k = refl
-  calm-same (await i s e) k = absurd k
-  calm-same (emit i e y) k = refl
-  calm-same (break i) k = refl
-  calm-same (ifvar i v p q) k = refl
-  calm-same (seq i p q) k = ap (λ (x : Tree). seq i x q) (calm-same p (k .0))
-  calm-same (loop i p) k = refl
-  calm-same (every i s e p) k = absurd k
-  calm-same (par i o p q) k = refl
-  calm-same (fin i p) k = refl
-  calm-same (canrun i m) k = refl
-  calm-same (atLoop i p q) k = absurd k
-  calm-same (atPar i o p q) k = absurd k
 
 -- the woken states show u, and nothing outside t has changed
 pub record Wakes (t : Tree) (l l′ : List ℕ) (u : Tree) : Type 0 where
