@@ -1,20 +1,19 @@
 -- Stages 2 and 3 by the numbers that the code has: of children, of ranges.
 -- Assumes nothing.
 use mathlib.Core.Path.{_≡_, refl, sym, subst, _∙_}
-use mathlib.Core.Bool.{Bool, true, false, not, _&&_}
-use mathlib.Core.List.{List, [], _∷_}
+use mathlib.Core.Bool.{Bool, true, false, not, _&&_, and-false}
+use mathlib.Core.List.{List}
 use Prim.Native.Nat.{ℕ, zero, suc, _+_, _-_, _≤_, _<_}
 use native.Mathlib.Omega.{arith}
 use lib.Dec.{eqb, ltb}
 use lib.IntN.{pos}
-use lib.ListN.{getD, List·getD-eq-default}
+use lib.ListN.{List·getD-eq-default}
 use borrow.Author.Tests.{not-true, not-false, eq-eqb, ne-eqb, lt-ltb, le-ltb}
-use Rattle.rules.specs.Table.{Children, leaf, one, two, wrong, oneTo63, kinds, over19, kindAt, spanAt, secondAt, rowAt, recordsOf, spanFits, shapeRight, inRange, inKindsTable, nameAt, numberAt}
+use Rattle.rules.specs.Table.{Children, leaf, one, two, wrong, Range, oneTo63, kinds, over19, kindAt, spanAt, secondAt, rowAt, recordsOf, spanFits, shapeRight, inRange, nameAt, numberAt}
 use Rattle.table.specs.Kinds.{arity, childrenOf, rowOf}
 use Rattle.table.specs.Places.{bitsAt}
-use Rattle.table.proofs.Counting.{each}
 use Rattle.table.proofs.Passed.{bits-range}
-use Rattle.acceptance.specs.Records.{rangeOf, nameRange, numberRange}
+use Rattle.acceptance.specs.Records.{rangeOf, rowFits, recordFits}
 
 -- ---- the span, by the number of children
 abbrev fitsBy : ℕ → List ℕ → ℕ → ℕ → Bool
@@ -68,44 +67,51 @@ module _ (b : List ℕ) (i : ℕ) {x : Bool} (e : x ≡ spanFits (rowAt b i .chi
   pub shape-later : not x ≡ false → (i ≡ 0 → ⊥) → true ≡ shapeRight b (recordsOf b) i
   shape-later h n = sym (rw (← e, not-false x h, ne-eqb i 0 n))
 
-  pub shape-root : not x ≡ false → i ≡ 0 → {s : ℕ} → s ≡ spanAt b 0 → eqb s (recordsOf b) ≡ shapeRight b (recordsOf b) i
-  shape-root h z q = rw q (sym (rw (← e, not-false x h, eq-eqb i 0 z)))
+  pub shape-root : not x ≡ false → i ≡ 0 → {y : Bool} → y ≡ eqb (spanAt b 0) (recordsOf b) → y ≡ shapeRight b (recordsOf b) i
+  shape-root h z q = q ∙ sym (rw (← e, not-false x h, eq-eqb i 0 z))
 
 -- ---- ranges
-abbrev pub nameRanges : List ℕ
-nameRanges = 0 ∷ 3 ∷ 3 ∷ 3 ∷ 3 ∷ 3 ∷ 3 ∷ 3 ∷ 3 ∷ 3 ∷ 3 ∷ 0 ∷ 2 ∷ 0 ∷ 0 ∷ 3 ∷ 3 ∷ 0 ∷ 0 ∷ 0 ∷ []
-
-abbrev pub numberRanges : List ℕ
-numberRanges = 0 ∷ 1 ∷ 1 ∷ 2 ∷ 2 ∷ 2 ∷ 2 ∷ 2 ∷ 0 ∷ 0 ∷ 0 ∷ 0 ∷ 0 ∷ 0 ∷ 0 ∷ 0 ∷ 0 ∷ 0 ∷ 0 ∷ 0 ∷ []
-
-pub names-right : (k : ℕ) → k < 20 → rangeOf (getD nameRanges k 0) ≡ nameRange k
-names-right =
-    each (λ k. rangeOf (getD nameRanges k 0) ≡ nameRange k) 20
-    (refl, (refl, (refl, (refl, (refl, (refl, (refl, (refl, (refl, (refl, (refl, (refl, (refl, (refl, (refl, (refl, (refl, (refl, (refl, (refl, tt))))))))))))))))))))
-
-pub numbers-right : (k : ℕ) → k < 20 → rangeOf (getD numberRanges k 0) ≡ numberRange k
-numbers-right =
-    each (λ k. rangeOf (getD numberRanges k 0) ≡ numberRange k) 20
-    (refl, (refl, (refl, (refl, (refl, (refl, (refl, (refl, (refl, (refl, (refl, (refl, (refl, (refl, (refl, (refl, (refl, (refl, (refl, (refl, tt))))))))))))))))))))
-
-pub no-row : (k : ℕ) → 20 ≤ k → rowOf k ≡ over19
-no-row k h = List·getD-eq-default kinds over19 h
-
 pub range-rest : (r : ℕ) → 3 ≤ r → rangeOf r ≡ oneTo63
 range-rest zero h = absurd (omega arith)
 range-rest (suc zero) h = absurd (omega arith)
 range-rest (suc (suc zero)) h = absurd (omega arith)
 range-rest (suc (suc (suc r))) h = refl
 
--- ---- stage 3, as the code finds it: k is the kind, v the name, z the number's bits
-module _ (b : List ℕ) (i : ℕ) {k : ℕ} (e : k ≡ kindAt b i) {v : ℕ} (d : v ≡ nameAt b i) (r : ℕ) (p : rangeOf r ≡ nameRange k) {x : Bool} (f : x ≡ inRange (rangeOf r) (pos v)) where
-  name-says : x ≡ inRange (rowAt b i .name) (pos (nameAt b i))
-  name-says = f ∙ rw (p, d, e)
+-- ---- a record and its ranges, as the code finds them: x is whether the name fits, y whether the number does, z its bits
+module _ (b : List ℕ) (i : ℕ) (n m : Range) {v : ℕ} (d : v ≡ nameAt b i) {x : Bool} (f : x ≡ inRange n (pos v)) where
+  name-says : x ≡ inRange n (pos (nameAt b i))
+  name-says = f ∙ rw d
 
-  pub name-wrong : not x ≡ true → false ≡ inKindsTable b i
+  pub name-wrong : not x ≡ true → false ≡ rowFits b i n m
   name-wrong h = sym (rw (← name-says, not-true x h))
 
-  pub number-says : not x ≡ false → {z : ℕ} → z ≡ bitsAt b i → (s : ℕ) → rangeOf s ≡ numberRange k → inRange (rangeOf s) (pos z) ≡ inKindsTable b i
-  number-says h {z} g s q =
-      let w : inRange (rangeOf s) (pos z) ≡ inRange (rowAt b i .number) (numberAt b i) = rw (q, g, e) (bits-range (rowAt b i .number) (bitsAt b i)) in
-      w ∙ sym (rw (← name-says, not-false x h))
+  module _ (h : not x ≡ false) {z : ℕ} (e : z ≡ bitsAt b i) {y : Bool} (g : y ≡ inRange m (pos z)) where
+    number-says : y ≡ inRange m (numberAt b i)
+    number-says = g ∙ rw e (bits-range m (bitsAt b i))
+
+    pub number-wrong : not y ≡ true → false ≡ rowFits b i n m
+    number-wrong l = sym (rw (← name-says, not-false x h, ← number-says, not-true y l))
+
+    pub span-decides : not y ≡ false → {s : Bool} → s ≡ spanFits (rowAt b i .children) b (recordsOf b) i → s ≡ rowFits b i n m
+    span-decides l q = q ∙ sym (rw (← name-says, not-false x h, ← number-says, not-false y l))
+
+-- ---- the kinds table, as the code finds it: k is the kind here
+
+-- none of the numbers below n
+abbrev Beside : ℕ → ℕ → Type 0
+Beside zero k = Unit {0}
+Beside (suc n) k = Beside n k × (k ≡ n → ⊥)
+
+beside : (n k : ℕ) → Beside n k → n ≤ k
+beside zero k h = omega arith
+beside (suc n) k h = omega (arith, beside n k (h .0), h .1)
+
+module _ (b : List ℕ) (i : ℕ) {k : ℕ} (e : k ≡ kindAt b i) where
+  pub row-here : (n m : ℕ) → rangeOf n ≡ rowOf k .name → rangeOf m ≡ rowOf k .number → rowFits b i (rangeOf n) (rangeOf m) ≡ recordFits b i
+  row-here n m p q = rw (p, q, e)
+
+  pub no-row : Beside 20 k → false ≡ recordFits b i
+  no-row h =
+      let o : rowAt b i ≡ over19 = rw (← e) (List·getD-eq-default kinds over19 (beside 20 k h)) in
+      let w : spanFits (rowAt b i .children) b (recordsOf b) i ≡ false = rw o in
+      sym (rw w (and-false (inRange (rowAt b i .name) (pos (nameAt b i)) && inRange (rowAt b i .number) (numberAt b i))))

@@ -1,24 +1,24 @@
 -- The verdict from the lowest failing places of the stages, and what a table that passes them has.
 -- Assumes nothing.
 use mathlib.Core.Path.{_≡_, refl, sym, ap, subst, _∙_}
-use mathlib.Core.Bool.{Bool, true, false, not, _&&_}
+use mathlib.Core.Bool.{Bool, true, false, not, _&&_, _||_, and-true}
 use mathlib.Core.List.{List, [], _∷_}
 use mathlib.Core.Option.{some}
-use Prim.Native.Nat.{ℕ, suc, _≤_, max}
+use Prim.Native.Nat.{ℕ, zero, suc, _+_, _≤_, _<_, max}
 use native.Mathlib.Omega.{arith}
-use lib.Dec.{T, leb}
+use lib.Dec.{T, eqb, leb}
 use borrow.Author.Tests.{not-true, not-false, leb-false}
 use Rattle.rules.specs.Stages.{if_then_else_, refusal, firstRefusal, failing}
 use Rattle.rules.specs.Limits.{mostLoops}
-use Rattle.rules.specs.Table.{recordsOf, shapeRight}
+use Rattle.rules.specs.Table.{spanAt, rowAt, recordsOf, spanFits, shapeRight, inKindsTable}
 use Rattle.rules.specs.Check.{refused, accepted, check, tableStages, announced, visitsOf, Visit, hits, isKind, deepLoop, deepest, goodLength}
-use Rattle.theory.specs.Logic.{clash}
-use Rattle.theory.specs.Stages.{none-fails}
+use Rattle.theory.specs.Logic.{clash, and-in, both-left, both-right, or-right, T→true}
+use Rattle.theory.specs.Stages.{none-fails, all-pass}
 use Rattle.table.proofs.Finding.{found-fails, found-none}
 use Rattle.table.proofs.Passed.{Sized, sized}
-use Rattle.table.specs.Places.{Place}
+use Rattle.table.specs.Places.{Shape, Place}
 use Rattle.table.specs.Found.{firstOf}
-use Rattle.acceptance.specs.Records.{rightAt}
+use Rattle.acceptance.specs.Records.{recordFits, rightAt}
 use Rattle.acceptance.specs.Walks.{failsOf}
 use Rattle.acceptance.specs.Counts.{allPass, tallyOf}
 use Rattle.acceptance.specs.Verdicts.{nodesVerdict}
@@ -26,6 +26,32 @@ use Rattle.acceptance.specs.declared.counts.Tally.{Tally}
 use Rattle.table.specs.declared.Found.{Found}
 use Rattle.table.specs.declared.Found.the-variants.{At, Nothing}
 use Rattle.acceptance.proofs.Tallies.{none-hit}
+
+-- ---- one look at each record, for stages 2 and 3
+
+same-failing : (f g : ℕ → Bool) (i k : ℕ) → ((j : ℕ) → j < i + k → f j ≡ g j) → failing f i k ≡ failing g i k
+unfolding failing
+same-failing f g i zero h = refl
+same-failing f g i (suc k) h = rw (h i (omega arith), same-failing f g (suc i) k (λ j l. h j (omega arith)))
+
+-- the place j of a table that passes stage 2 fits exactly where it passes stage 3
+fits-shaped : (b : List ℕ) (j : ℕ) → T (shapeRight b (recordsOf b) j) → recordFits b j ≡ inKindsTable b j
+fits-shaped b j t = rw (T→true (spanFits (rowAt b j .children) b (recordsOf b) j) (both-left (spanFits (rowAt b j .children) b (recordsOf b) j) (not (eqb j 0) || eqb (spanAt b 0) (recordsOf b)) t)) (and-true (inKindsTable b j))
+
+stage-3 : (b : List ℕ) → failing (shapeRight b (recordsOf b)) 0 (recordsOf b) ≡ [] → failing (rightAt 3 b) 0 (recordsOf b) ≡ failing (inKindsTable b) 0 (recordsOf b)
+stage-3 b e = same-failing (rightAt 3 b) (inKindsTable b) 0 (recordsOf b) (λ j l. fits-shaped b j (none-fails (shapeRight b (recordsOf b)) 0 (recordsOf b) e j (omega arith) l))
+
+-- y is whether record 0 spans the table
+module _ (b : List ℕ) {y : Bool} (e : y ≡ eqb (spanAt b 0) (recordsOf b)) (h : y ≡ true) {z : Found} (d : z ≡ firstOf (failing (rightAt 3 b) 0 (recordsOf b))) (n : z ≡ Nothing) where
+  pub all-shaped : Shape b
+  all-shaped j l = and-in (spanFits (rowAt b j .children) b (recordsOf b) j) (not (eqb j 0) || eqb (spanAt b 0) (recordsOf b)) (both-right (inKindsTable b j) (spanFits (rowAt b j .children) b (recordsOf b) j) (none-fails (rightAt 3 b) 0 (recordsOf b) (found-none (failing (rightAt 3 b) 0 (recordsOf b)) d n) j (omega arith) (omega arith))) (or-right (not (eqb j 0)) (eqb (spanAt b 0) (recordsOf b)) (subst T (sym h ∙ e) tt))
+
+  pub shape-clean : failing (shapeRight b (recordsOf b)) 0 (recordsOf b) ≡ []
+  shape-clean = all-pass (shapeRight b (recordsOf b)) 0 (recordsOf b) (λ j a l. all-shaped j (omega arith))
+
+  pub passed-both : {x : Bool} → x ≡ goodLength b → not x ≡ false → check b ≡ nodesVerdict b
+  unfolding check tableStages firstRefusal nodesVerdict
+  passed-both {x} e1 h1 = rw (← e1, not-false x h1, shape-clean, ← stage-3 b shape-clean, found-none (failing (rightAt 3 b) 0 (recordsOf b)) d n)
 
 -- ---- the stages in their order
 module _ (b : List ℕ) where
@@ -39,13 +65,16 @@ module _ (b : List ℕ) where
     refused-2 e d = rw (← e1, not-false x h1, found-fails (failing (rightAt 2 b) 0 (recordsOf b)) e d)
 
     module _ {y : Found} (e2 : y ≡ firstOf (failing (rightAt 2 b) 0 (recordsOf b))) (h2 : y ≡ Nothing) where
+      clean : failing (shapeRight b (recordsOf b)) 0 (recordsOf b) ≡ []
+      clean = found-none (failing (rightAt 2 b) 0 (recordsOf b)) e2 h2
+
       pub refused-3 : {z : Found} → z ≡ firstOf (failing (rightAt 3 b) 0 (recordsOf b)) → {p : ℕ} → z ≡ At p → check b ≡ refused (refusal 3 p)
       unfolding check tableStages firstRefusal
-      refused-3 e d = rw (← e1, not-false x h1, found-none (failing (rightAt 2 b) 0 (recordsOf b)) e2 h2, found-fails (failing (rightAt 3 b) 0 (recordsOf b)) e d)
+      refused-3 e d = rw (← e1, not-false x h1, clean, ← stage-3 b clean, found-fails (failing (rightAt 3 b) 0 (recordsOf b)) e d)
 
       pub passed-3 : {z : Found} → z ≡ firstOf (failing (rightAt 3 b) 0 (recordsOf b)) → z ≡ Nothing → check b ≡ nodesVerdict b
       unfolding check tableStages firstRefusal nodesVerdict
-      passed-3 e d = rw (← e1, not-false x h1, found-none (failing (rightAt 2 b) 0 (recordsOf b)) e2 h2, found-none (failing (rightAt 3 b) 0 (recordsOf b)) e d)
+      passed-3 e d = rw (← e1, not-false x h1, clean, ← stage-3 b clean, found-none (failing (rightAt 3 b) 0 (recordsOf b)) e d)
 
 -- what the code found of a stage from 4 to 7
 abbrev Finds : List ℕ → ℕ → Found → Type 0
@@ -104,13 +133,13 @@ few-loops b e d = shallow (visitsOf b) (found-none (hits (failsOf 6) (visitsOf b
 
 -- ---- where the tally is right, no stage from 4 to 7 fails
 module _ (b : List ℕ) {t : Tally} (e : t ≡ tallyOf (visitsOf b)) (h : t .right ≡ true) where
-  all-pass : T (allPass (visitsOf b))
+  tally-passes : T (allPass (visitsOf b))
   unfolding tallyOf
-  all-pass = subst T (sym h ∙ ap (λ (t : Tally). t .right) e) tt
+  tally-passes = subst T (sym h ∙ ap (λ (t : Tally). t .right) e) tt
 
   pub right-loops : deepest (visitsOf b) ≤ mostLoops
-  right-loops = shallow (visitsOf b) (none-hit 6 (visitsOf b) all-pass)
+  right-loops = shallow (visitsOf b) (none-hit 6 (visitsOf b) tally-passes)
 
   pub right-accepted : nodesVerdict b ≡ accepted (announced b)
   unfolding nodesVerdict firstRefusal
-  right-accepted = rw (none-hit 4 (visitsOf b) all-pass, none-hit 5 (visitsOf b) all-pass, none-hit 6 (visitsOf b) all-pass, none-hit 7 (visitsOf b) all-pass)
+  right-accepted = rw (none-hit 4 (visitsOf b) tally-passes, none-hit 5 (visitsOf b) tally-passes, none-hit 6 (visitsOf b) tally-passes, none-hit 7 (visitsOf b) tally-passes)

@@ -74,6 +74,12 @@ pub fn check(table: &[u8]) -> Checked
     if !records::good_length(table) {
         return refused(1, 0);
     }
+    // One look at each record accepts; a stage at a time finds what is refused.
+    if records::spans_table(table) {
+        if let Found::Nothing = records::first_record(table, 3) {
+            return check_nodes(table);
+        }
+    }
     if let Found::At(place) = records::first_record(table, 2) {
         return refused(2, place);
     }

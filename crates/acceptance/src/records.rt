@@ -1,11 +1,12 @@
 // Stages 1 to 3: the length, and each record by itself.
 ghost use mathlib.Core.Path.{_≡_};
 ghost use Prim.Native.Nat.{_<_};
+ghost use lib.Dec.{eqb};
 ghost use lib.IntN.{pos};
-ghost use Rattle.rules.specs.Table.{rowAt, recordsOf, spanFits, shapeRight, inRange, inKindsTable};
+ghost use Rattle.rules.specs.Table.{rowAt, spanAt, recordsOf, spanFits, shapeRight, inRange};
 ghost use Rattle.rules.specs.Stages.{failing};
 ghost use Rattle.rules.specs.Check.{goodLength};
-ghost use Rattle.acceptance.specs.Records.{rangeOf, nameRange, numberRange, rightAt};
+ghost use Rattle.acceptance.specs.Records.{rangeOf, rowFits, recordFits, rightAt};
 ghost use Rattle.table.specs.Found.{Inside, firstOf};
 use rules::Limits;
 use table::Found;
@@ -51,6 +52,14 @@ fn span_fits(table: &[u8], i: usize) -> bool
     span == 1 + first + table::span_at(table, next)
 }
 
+// Whether record 0 spans the table.
+pub fn spans_table(table: &[u8]) -> bool
+    requires { ⌜ 0 < recordsOf (now table) ⌝ }
+    ensures { λ r. ⌜ r ≡ eqb (spanAt (now (table .entry)) 0) (recordsOf (now (table .entry))) ⌝ }
+{
+    table::span_at(table, 0) == table.len() / Limits::RECORD_BYTES
+}
+
 fn shape_right(table: &[u8], i: usize) -> bool
     requires { ⌜ i < recordsOf (now table) ⌝ }
     ensures { λ r. ⌜ r ≡ shapeRight (now (table .entry)) (recordsOf (now (table .entry))) i ⌝ }
@@ -61,26 +70,10 @@ fn shape_right(table: &[u8], i: usize) -> bool
     if i != 0 {
         return true;
     }
-    table::span_at(table, 0) == table.len() / Limits::RECORD_BYTES
+    spans_table(table)
 }
 
-// What a name and a number may be, for each kind from 0 on: only 0 (0), anything (1), at most 63 (2), 1 to 63 (3).
-const NAMES: [u8; 20] = [0, 3, 3, 3, 3, 3, 3, 3, 3, 3, 3, 0, 2, 0, 0, 3, 3, 0, 0, 0];
-
-const NUMBERS: [u8; 20] = [0, 1, 1, 2, 2, 2, 2, 2, 0, 0, 0, 0, 0, 0, 0, 0, 0, 0, 0, 0];
-
-fn name_range(kind: usize) -> u8
-    ensures { λ r. ⌜ rangeOf r ≡ nameRange kind ⌝ }
-{
-    if kind < 20 { NAMES[kind] } else { 0 }
-}
-
-fn number_range(kind: usize) -> u8
-    ensures { λ r. ⌜ rangeOf r ≡ numberRange kind ⌝ }
-{
-    if kind < 20 { NUMBERS[kind] } else { 0 }
-}
-
+// The ranges of the kinds table: only 0 (0), anything (1), at most 63 (2), 1 to 63 (3).
 fn in_range(range: u8, value: usize) -> bool
     ensures { λ r. ⌜ r ≡ inRange (rangeOf range) (pos value) ⌝ }
 {
@@ -99,18 +92,52 @@ fn in_range(range: u8, value: usize) -> bool
     value <= Limits::NAME
 }
 
-fn in_kinds_table(table: &[u8], i: usize) -> bool
+// Whether the record at place i has its span, and a name and a number in these ranges.
+fn row_fits(table: &[u8], i: usize, name: u8, number: u8) -> bool
     requires { ⌜ i < recordsOf (now table) ⌝ }
-    ensures { λ r. ⌜ r ≡ inKindsTable (now (table .entry)) i ⌝ }
+    ensures { λ r. ⌜ r ≡ rowFits (now (table .entry)) i (rangeOf name) (rangeOf number) ⌝ }
 {
-    let kind = table::kind_at(table, i);
-    if !in_range(name_range(kind), table::name_at(table, i)) {
+    if !in_range(name, table::name_at(table, i)) {
         return false;
     }
-    in_range(number_range(kind), table::bits_at(table, i) as usize)
+    if !in_range(number, table::bits_at(table, i) as usize) {
+        return false;
+    }
+    span_fits(table, i)
 }
 
-// Stage 2 or 3 at one record.
+// The ranges of each kind: the kind is looked at once, and each row is then tests of constants.
+fn record_fits(table: &[u8], i: usize) -> bool
+    requires { ⌜ i < recordsOf (now table) ⌝ }
+    ensures { λ r. ⌜ r ≡ recordFits (now (table .entry)) i ⌝ }
+{
+    let kind = table::kind_at(table, i);
+    match kind {
+        0 => row_fits(table, i, 0, 0),
+        1 => row_fits(table, i, 3, 1),
+        2 => row_fits(table, i, 3, 1),
+        3 => row_fits(table, i, 3, 2),
+        4 => row_fits(table, i, 3, 2),
+        5 => row_fits(table, i, 3, 2),
+        6 => row_fits(table, i, 3, 2),
+        7 => row_fits(table, i, 3, 2),
+        8 => row_fits(table, i, 3, 0),
+        9 => row_fits(table, i, 3, 0),
+        10 => row_fits(table, i, 3, 0),
+        11 => row_fits(table, i, 0, 0),
+        12 => row_fits(table, i, 2, 0),
+        13 => row_fits(table, i, 0, 0),
+        14 => row_fits(table, i, 0, 0),
+        15 => row_fits(table, i, 3, 0),
+        16 => row_fits(table, i, 3, 0),
+        17 => row_fits(table, i, 0, 0),
+        18 => row_fits(table, i, 0, 0),
+        19 => row_fits(table, i, 0, 0),
+        _ => false,
+    }
+}
+
+// Stage 2 at one record; else stage 3, and that its span fits.
 fn record_right(table: &[u8], i: usize, stage: u8) -> bool
     requires { ⌜ i < recordsOf (now table) ⌝ }
     ensures { λ r. ⌜ r ≡ rightAt stage (now (table .entry)) i ⌝ }
@@ -118,7 +145,7 @@ fn record_right(table: &[u8], i: usize, stage: u8) -> bool
     if stage == 2 {
         shape_right(table, i)
     } else {
-        in_kinds_table(table, i)
+        record_fits(table, i)
     }
 }
 
