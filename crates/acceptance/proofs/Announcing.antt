@@ -1,22 +1,24 @@
 -- The announced numbers of a table that passes the stages: from the counts of its walk, and below 2^32.
 -- Assumes nothing.
-use mathlib.Core.Path.{_≡_, refl, sym, ap, _∙_}
-use mathlib.Core.List.{List}
+use mathlib.Core.Path.{_≡_, refl, sym, ap, subst, _∙_}
+use mathlib.Core.Bool.{Bool}
+use mathlib.Core.List.{List, [], _∷_, append-nil}
 use Prim.Native.Nat.{ℕ, _+_, _*_, _≤_, _<_}
 use native.Mathlib.Omega.{arith}
-use lib.ListN.{length}
+use lib.ListN.{length, getD}
 use Rattle.rules.specs.Limits.{mostEmitted, mostLevel, mostSteps, mostOutputs, announce, mostLoops, mostRecords}
 use Rattle.rules.specs.Limits as Rules
-use Rattle.rules.specs.Table.{programOf, recordsOf}
+use Rattle.rules.specs.Table.{programOf, spanAt, recordsOf}
 use Rattle.rules.specs.Check.{Around, nothingAround, walk, deepest, visitsOf, announced}
 use Rattle.rules.proofs.Products.{product-bound}
 use Rattle.theory.specs.Walk.{walk-size}
 use Rattle.table.specs.Places.{Place, treeOf}
 use Rattle.table.proofs.Places.{root-span}
 use Rattle.table.proofs.Trees.{tree-span, tree-program}
-use Rattle.acceptance.specs.Counts.{tallyOf}
+use Rattle.acceptance.specs.Rows.{Visits, ends, goes, Row, AddsFrom}
+use Rattle.acceptance.specs.Counts.{tallied, tallyOf, Tallied}
 use Rattle.acceptance.specs.declared.counts.Tally.{Tally}
-use Rattle.acceptance.proofs.Tallies.{Small, walk-small, small-by}
+use Rattle.acceptance.proofs.Tallies.{Small, walk-small, small-by, all-counted}
 
 -- the program is the tree at place 0
 pub whole-walk : (b : List ℕ) {a : Around} → a ≡ nothingAround → walk a (treeOf b 0) ≡ visitsOf b
@@ -25,6 +27,18 @@ whole-walk b e = rw e
 
 whole-length : (b : List ℕ) → Place b 0 → length (visitsOf b) ≡ recordsOf b
 whole-length b p = rw (← whole-walk b {a = nothingAround} refl) (walk-size nothingAround (treeOf b 0) (tree-program b 0 p) ∙ (tree-span b 0 p ∙ root-span b p))
+
+-- the walk goes through the program from place 0 to the end
+whole-visits : (b : List ℕ) → Place b 0 → {n : ℕ} → n ≡ recordsOf b → Visits b nothingAround n 0 (visitsOf b)
+whole-visits b p {n} e =
+    let z : 0 + spanAt b 0 ≡ n = omega (arith, root-span b p) in
+    subst (Visits b nothingAround n 0) (append-nil (walk nothingAround (treeOf b 0)) ∙ whole-walk b refl) (goes p (ends z))
+
+pub whole-row : (b : List ℕ) → Place b 0 → {n : ℕ} → n ≡ recordsOf b → Row b n 0
+whole-row b p e = record { visits = visitsOf b; are = whole-visits b p e }
+
+pub whole-tally : (b : List ℕ) → Place b 0 → recordsOf b ≤ mostRecords → {n : ℕ} → n ≡ recordsOf b → {r : Bool} {m : List ℕ} → AddsFrom r 0 b n 0 (0 ∷ 0 ∷ 0 ∷ 0 ∷ []) m → Tallied (tallied (getD m 0 0) (getD m 1 0) (getD m 2 0) (getD m 3 0) r) (visitsOf b)
+whole-tally b p l e h = all-counted (visitsOf b) (omega (arith, whole-length b p)) (h (visitsOf b) (whole-visits b p e))
 
 -- ---- bounds
 

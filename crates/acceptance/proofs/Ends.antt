@@ -3,18 +3,18 @@
 use mathlib.Core.Path.{_≡_, refl, subst}
 use mathlib.Core.Bool.{Bool, true, false, not, _&&_, _||_}
 use mathlib.Core.List.{List}
-use Prim.Native.Nat.{ℕ, zero, suc, _+_, _≤_, _<_}
+use Prim.Native.Nat.{ℕ, zero, suc, _+_, _*_, _≤_, _<_}
 use native.Mathlib.Omega.{arith}
 use lib.Dec.{T, eqb, ltb, leb, eqb→eq, leb→le}
 use borrow.Author.Tests.{lt-ltb, le-ltb, eq-eqb, ne-eqb, ltb-true, ltb-false}
 use Rattle.rules.specs.Stages.{if_then_else_}
-use Rattle.rules.specs.Table.{kindAt, secondAt}
+use Rattle.rules.specs.Table.{kindAt, spanAt, secondAt}
 use Rattle.rules.specs.Check.{mayEnd, mayBreak}
 use Rattle.theory.specs.Logic.{_also_}
 use Rattle.table.specs.Kinds.{childrenOf}
 use Rattle.table.specs.Places.{Place, treeOf}
 use Rattle.table.proofs.Counting.{computed}
-use Rattle.table.proofs.Places.{children-most, over-19}
+use Rattle.table.proofs.Places.{children-most, over-19, down-place, down-falls, next-place, next-falls}
 use Rattle.table.proofs.Trees.{by-kind}
 
 -- whether either is enough, or both are asked
@@ -109,3 +109,10 @@ inner-kind k h = go (ltb k 20) refl
 
 pub two-children : (b : List ℕ) (i : ℕ) → Place b i → {k : ℕ} → k ≡ kindAt b i → 12 ≤ k → (childrenOf k ≡ 1 → ⊥) → 2 ≤ childrenOf (kindAt b i)
 two-children b i p {k} e h n = rw (← e) (omega (arith, inner-kind k h))
+
+-- what a recursive call asks where the measure m is twice the span
+pub twice-down : (b : List ℕ) (i : ℕ) {m : ℕ} → spanAt b i * 2 ≡ m → Place b i → 1 ≤ childrenOf (kindAt b i) → (spanAt b (i + 1) * 2 + 1 < m) × Place b (i + 1)
+twice-down b i e p h = (omega (arith, down-falls b i p h), down-place b i p h)
+
+pub twice-next : (b : List ℕ) (i : ℕ) {m j : ℕ} → spanAt b i * 2 ≡ m → Place b i → 2 ≤ childrenOf (kindAt b i) → j ≡ secondAt b i → (spanAt b j * 2 < m) × Place b j
+twice-next b i e p h q = rw q (omega (arith, next-falls b i p h), next-place b i p h)

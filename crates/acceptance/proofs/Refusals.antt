@@ -1,6 +1,6 @@
 -- The verdict from the lowest failing places of the stages, and what a table that passes them has.
 -- Assumes nothing.
-use mathlib.Core.Path.{_≡_, refl, sym, ap, subst, _∙_}
+use mathlib.Core.Path.{_≡_, refl, sym, subst, _∙_}
 use mathlib.Core.Bool.{Bool, true, false, not, _&&_, _||_, and-true}
 use mathlib.Core.List.{List, [], _∷_}
 use mathlib.Core.Option.{some}
@@ -20,12 +20,13 @@ use Rattle.table.specs.Places.{Shape, Place}
 use Rattle.table.specs.Found.{firstOf}
 use Rattle.acceptance.specs.Records.{recordFits, rightAt}
 use Rattle.acceptance.specs.Walks.{failsOf}
-use Rattle.acceptance.specs.Counts.{allPass, tallyOf}
+use Rattle.acceptance.specs.Rows.{allPass}
+use Rattle.acceptance.specs.Counts.{Tallied}
 use Rattle.acceptance.specs.Verdicts.{nodesVerdict}
 use Rattle.acceptance.specs.declared.counts.Tally.{Tally}
 use Rattle.table.specs.declared.Found.{Found}
 use Rattle.table.specs.declared.Found.the-variants.{At, Nothing}
-use Rattle.acceptance.proofs.Tallies.{none-hit}
+use Rattle.acceptance.proofs.Tallies.{none-hit, hit-by-none}
 
 -- ---- one look at each record, for stages 2 and 3
 
@@ -100,9 +101,12 @@ module _ (b : List ℕ) {x : Found} (e4 : Finds b 4 x) where
         unfolding nodesVerdict firstRefusal
         refused-7 d = rw (found-none (hits (failsOf 4) (visitsOf b)) e4 h4, found-none (hits (failsOf 5) (visitsOf b)) e5 h5, found-none (hits (failsOf 6) (visitsOf b)) e6 h6, found-fails (hits (failsOf 7) (visitsOf b)) e7 d)
 
-        pub passed-7 : w ≡ Nothing → nodesVerdict b ≡ accepted (announced b)
-        unfolding nodesVerdict firstRefusal
-        passed-7 d = rw (found-none (hits (failsOf 4) (visitsOf b)) e4 h4, found-none (hits (failsOf 5) (visitsOf b)) e5 h5, found-none (hits (failsOf 6) (visitsOf b)) e6 h6, found-none (hits (failsOf 7) (visitsOf b)) e7 d)
+        -- it does not come to this where the tally is not right
+        pub never-7 : w ≡ Nothing → {t : Tally} → Tallied t (visitsOf b) → t .right ≡ false → ⊥
+        never-7 d e h =
+            let p : allPass (visitsOf b) ≡ true = hit-by-none (visitsOf b) (found-none (hits (failsOf 4) (visitsOf b)) e4 h4) (found-none (hits (failsOf 5) (visitsOf b)) e5 h5) (found-none (hits (failsOf 6) (visitsOf b)) e6 h6) (found-none (hits (failsOf 7) (visitsOf b)) e7 d) in
+            let q : _≡_ {A = Bool} false true = sym h ∙ (e .right ∙ p) in
+            clash (cc)
 
 -- ---- what the stages give
 
@@ -128,14 +132,10 @@ shallow (v ∷ vs) e = go (shallow vs) (isKind 14 v) (leb mostLoops (v .around .
     go f true false q e = omega (arith, leb-false mostLoops (v .around .loops) q, f e)
     go f false w q e = omega (arith, f e)
 
-pub few-loops : (b : List ℕ) {z : Found} → Finds b 6 z → z ≡ Nothing → deepest (visitsOf b) ≤ mostLoops
-few-loops b e d = shallow (visitsOf b) (found-none (hits (failsOf 6) (visitsOf b)) e d)
-
 -- ---- where the tally is right, no stage from 4 to 7 fails
-module _ (b : List ℕ) {t : Tally} (e : t ≡ tallyOf (visitsOf b)) (h : t .right ≡ true) where
+module _ (b : List ℕ) {t : Tally} (e : Tallied t (visitsOf b)) (h : t .right ≡ true) where
   tally-passes : T (allPass (visitsOf b))
-  unfolding tallyOf
-  tally-passes = subst T (sym h ∙ ap (λ (t : Tally). t .right) e) tt
+  tally-passes = subst T (sym h ∙ e .right) tt
 
   pub right-loops : deepest (visitsOf b) ≤ mostLoops
   right-loops = shallow (visitsOf b) (none-hit 6 (visitsOf b) tally-passes)

@@ -1,30 +1,34 @@
 -- What the walk from a place counts, and how far it can count.
 -- Assumes nothing.
 use mathlib.Core.Path.{_≡_, refl, sym, ap, subst, _∙_}
-use mathlib.Core.Bool.{Bool, true, false, not, _&&_, _||_, and-assoc, and-true}
-use mathlib.Core.List.{List, [], _∷_, _++_}
-use Prim.Native.Nat.{ℕ, suc, _+_, _≤_, max}
+use mathlib.Core.Bool.{Bool, true, false, not, _&&_, _||_}
+use mathlib.Core.List.{List, [], _∷_}
+use Prim.Native.Nat.{ℕ, suc, _+_, _≤_, _<_, max}
 use native.Mathlib.Omega.{arith}
-use lib.Dec.{T, eqb}
-use lib.ListN.{length}
+use lib.Dec.{T, eqb, ltb}
+use lib.ListN.{length, getD}
+use borrow.Author.Tests.{eqb-true, ltb-true, ltb-false, lt-ltb}
 use Rattle.rules.specs.Stages.{if_then_else_}
-use Rattle.rules.specs.Table.{kindAt, secondAt, recordsOf}
+use Rattle.rules.specs.Table.{recordsOf}
 use Rattle.rules.specs.Check.{Around, Visit, walk, hits, count, deepest, isKind, outsideEvery, insideEvery, looseBreak, notPlain, deepLoop, endlessLoop}
-use Rattle.theory.specs.Logic.{both-left, both-right}
-use Rattle.theory.specs.Walk.{walk-size, count-append, deepest-append}
-use Rattle.table.specs.Kinds.{childrenOf}
+use Rattle.theory.specs.Logic.{clash, both-left, both-right}
+use Rattle.theory.specs.Walk.{walk-size}
 use Rattle.table.specs.Places.{Place, treeOf}
-use Rattle.table.proofs.Places.{children-most}
 use Rattle.table.proofs.Trees.{tree-span, tree-program, span-inside}
-use Rattle.acceptance.specs.Walks.{inner, visitAt, belowAt, failsOf, passes}
-use Rattle.acceptance.specs.Counts.{tallied, allPass, tallyOf, sumOf, oneIf, ownTally}
+use Rattle.acceptance.specs.Walks.{failsOf, passes}
+use Rattle.acceptance.specs.Rows.{oneMore, deeper, outputsAt, countKind, countOne, countAll, allPass, Adds}
+use Rattle.acceptance.specs.Counts.{tallied, tallyOf, Tallied}
 use Rattle.acceptance.specs.declared.counts.Tally.{Tally}
-use Rattle.acceptance.proofs.Visits.{walk-at}
-
-same : {e d o n e′ d′ o′ n′ : ℕ} {r r′ : Bool} → e ≡ e′ → d ≡ d′ → o ≡ o′ → n ≡ n′ → r ≡ r′ → tallied e d o n r ≡ tallied e′ d′ o′ n′ r′
-same p q r s t = rw (p, q, r, s, t)
 
 -- ---- of a list
+
+abbrev oneIf : Bool → ℕ
+oneIf true = 1
+oneIf false = 0
+
+one-most : (x : Bool) → oneIf x ≤ 1
+one-most true = omega arith
+one-most false = omega arith
 
 count-cons : (f : Visit → Bool) (v : Visit) (vs : List Visit) → count f (v ∷ vs) ≡ oneIf (f v) + count f vs
 unfolding hits
@@ -34,29 +38,62 @@ count-cons f v vs = go (f v)
     go true = omega arith
     go false = omega arith
 
-pass-append : (us vs : List Visit) → allPass (us ++ vs) ≡ (allPass us && allPass vs)
-unfolding allPass
-pass-append [] vs = refl
-pass-append (u ∷ us) vs = ap (λ x. passes u && x) (pass-append us vs) ∙ sym (and-assoc (passes u) (allPass us) (allPass vs))
+-- the counts as the code has them: emits, the deepest nesting of loops, outputs outside and inside an every
+abbrev four : ℕ → ℕ → ℕ → ℕ → List ℕ
+four e d o n = e ∷ d ∷ o ∷ n ∷ []
 
-tally-cons : (v : Visit) (vs : List Visit) → tallyOf (v ∷ vs) ≡ sumOf (ownTally (v .kind) (v .around) (passes v)) (tallyOf vs)
-unfolding tallyOf ownTally deepest allPass
-tally-cons v vs = same (count-cons (isKind 10) v vs) (go (eqb (v .kind) 14)) (count-cons outsideEvery v vs) (count-cons insideEvery v vs) refl
-  where
-    go : (x : Bool) → max (if x then suc (v .around .loops) else 0) (deepest vs) ≡ max (if x then v .around .loops + 1 else 0) (deepest vs)
-    go true = omega arith
-    go false = refl
+same-four : {e d o n e′ d′ o′ n′ : ℕ} → e ≡ e′ → d ≡ d′ → o ≡ o′ → n ≡ n′ → four e d o n ≡ four e′ d′ o′ n′
+same-four p q r s = rw (p, q, r, s)
 
-tally-append : (us vs : List Visit) → tallyOf (us ++ vs) ≡ sumOf (tallyOf us) (tallyOf vs)
+-- of a node of kind k, under n loops, inside an every or not
+module _ (e d o i : ℕ) (f : e < 65535) (g : o < 65535) (h : i < 65535) (n : ℕ) where
+  abbrev After : ℕ → Bool → List ℕ → Type 0
+  After k w l = l ≡ four (e + oneIf (eqb k 10)) (max d (if eqb k 14 then suc n else 0)) (o + oneIf (eqb k 7 && not w)) (i + oneIf (eqb k 7 && w))
+
+  of-loop : (x : Bool) → ltb d (n + 1) ≡ x → (if x then four e (n + 1) o i else four e d o i) ≡ four (e + 0) (max d (suc n)) (o + 0) (i + 0)
+  of-loop true q = same-four (omega arith) (omega (arith, ltb-true d (n + 1) q)) (omega arith) (omega arith)
+  of-loop false q = same-four (omega arith) (omega (arith, ltb-false d (n + 1) q)) (omega arith) (omega arith)
+
+  of-output : (w : Bool) → After 7 w (oneMore (outputsAt w) (four e d o i))
+  of-output true = rw (lt-ltb i 65535 h) (same-four (omega arith) (omega arith) (omega arith) (omega arith))
+  of-output false = rw (lt-ltb o 65535 g) (same-four (omega arith) (omega arith) (omega arith) (omega arith))
+
+  of-emit : (w : Bool) → After 10 w (oneMore 0 (four e d o i))
+  of-emit w = rw (lt-ltb e 65535 f) (same-four (omega arith) (omega arith) (omega arith) (omega arith))
+
+  of-kind : (k : ℕ) (w : Bool) → After k w (if eqb k 14 then deeper (n + 1) (four e d o i) else countKind k w (four e d o i))
+  of-kind k w = go (eqb k 14) refl (eqb k 10) refl (eqb k 7) refl
+    where
+      go : (x : Bool) → eqb k 14 ≡ x → (y : Bool) → eqb k 10 ≡ y → (z : Bool) → eqb k 7 ≡ z → After k w (if eqb k 14 then deeper (n + 1) (four e d o i) else countKind k w (four e d o i))
+      go true p y q z r = rw (eqb-true k 14 p) (of-loop (ltb d (n + 1)) refl)
+      go false p true q z r = rw (eqb-true k 10 q) (of-emit w)
+      go false p false q true r = rw (eqb-true k 7 r) (of-output w)
+      go false p false q false r = rw (p, q, r) (same-four (omega arith) (omega arith) (omega arith) (omega arith))
+
+abbrev depthOf : Visit → ℕ
+depthOf v = if isKind 14 v then suc (v .around .loops) else 0
+
+count-one : (v : Visit) (e d o n : ℕ) → e < 65535 → o < 65535 → n < 65535 → countOne v (four e d o n) ≡ four (e + oneIf (isKind 10 v)) (max d (depthOf v)) (o + oneIf (outsideEvery v)) (n + oneIf (insideEvery v))
+unfolding countOne
+count-one v e d o n f g h = of-kind e d o n f g h (v .around .loops) (v .kind) (v .around .inEvery)
+
+count-all : (vs : List Visit) (e d o n : ℕ) → e + length vs ≤ 65535 → o + length vs ≤ 65535 → n + length vs ≤ 65535 → countAll vs (four e d o n) ≡ four (e + count (isKind 10) vs) (max d (deepest vs)) (o + count outsideEvery vs) (n + count insideEvery vs)
+unfolding countAll deepest hits
+count-all [] e d o n f g h = same-four (omega arith) (omega arith) (omega arith) (omega arith)
+count-all (v ∷ vs) e d o n f g h =
+    ap (countAll vs) (count-one v e d o n (omega arith) (omega arith) (omega arith)) ∙
+    (count-all vs (e + oneIf (isKind 10 v)) (max d (depthOf v)) (o + oneIf (outsideEvery v)) (n + oneIf (insideEvery v)) (omega (arith, one-most (isKind 10 v))) (omega (arith, one-most (outsideEvery v))) (omega (arith, one-most (insideEvery v))) ∙
+    same-four (omega (arith, count-cons (isKind 10) v vs)) (omega arith) (omega (arith, count-cons outsideEvery v vs)) (omega (arith, count-cons insideEvery v vs)))
+
+-- of the counts m that the code has after all of them
+pub all-counted : (vs : List Visit) → length vs ≤ 65535 → {r : Bool} {m : List ℕ} → Adds r vs (0 ∷ 0 ∷ 0 ∷ 0 ∷ []) m → Tallied (tallied (getD m 0 0) (getD m 1 0) (getD m 2 0) (getD m 3 0) r) vs
 unfolding tallyOf
-tally-append us vs = same (count-append (isKind 10) us vs) (deepest-append us vs) (count-append outsideEvery us vs) (count-append insideEvery us vs) (pass-append us vs)
-
-tally-nil : (t : Tally) → sumOf t (tallyOf []) ≡ t
-unfolding tallyOf deepest hits allPass
-tally-nil t = same (omega arith) (omega arith) (omega arith) (omega arith) (and-true (t .right))
-
-sum-assoc : (r s t : Tally) → sumOf r (sumOf s t) ≡ sumOf (sumOf r s) t
-sum-assoc r s t = same (omega arith) (omega arith) (omega arith) (omega arith) (sym (and-assoc (r .right) (s .right) (t .right)))
+all-counted vs l {r} {m} h = record {
+  right = h .right;
+  counted = λ t.
+      let q : m ≡ four (count (isKind 10) vs) (deepest vs) (count outsideEvery vs) (count insideEvery vs) = h .counted t ∙ (count-all vs 0 0 0 0 (omega arith) (omega arith) (omega arith) ∙ same-four (omega arith) (omega arith) (omega arith) (omega arith)) in
+      rw q (ap (tallied (count (isKind 10) vs) (deepest vs) (count outsideEvery vs) (count insideEvery vs)) (h .right));
+}
 
 -- ---- every node passes stages 4 to 7
 
@@ -77,23 +114,24 @@ unfolding allPass hits
 none-hit s [] t = refl
 none-hit s (v ∷ vs) t = rw (among (eqb s 4) (eqb s 5) (eqb s 6) (notPlain v) (looseBreak v) (deepLoop v) (endlessLoop v) (both-left (passes v) (allPass vs) t)) (none-hit s vs (both-right (passes v) (allPass vs) t))
 
--- ---- of the walk from a place; k is the kind there, o its own count, w stands around the children
-module _ (b : List ℕ) (i : ℕ) (p : Place b i) (a : Around) {k : ℕ} (q : k ≡ kindAt b i) {x : Bool} (n : x ≡ passes (visitAt b a i)) {o : Tally} (m : o ≡ ownTally k a x) where
-  all : tallyOf (walk a (treeOf b i)) ≡ sumOf o (tallyOf (belowAt (childrenOf k) b (inner k a) i))
-  unfolding visitAt
-  all = rw (m, n, q, walk-at b i p a) (tally-cons (visitAt b a i) (belowAt (childrenOf (kindAt b i)) b (inner (kindAt b i) a) i))
+missed : (f : Visit → Bool) (v : Visit) (vs : List Visit) → hits f (v ∷ vs) ≡ [] → (f v ≡ false) × (hits f vs ≡ [])
+unfolding hits
+missed f v vs = go (f v)
+  where
+    go : (x : Bool) → (if x then v .place ∷ hits f vs else hits f vs) ≡ [] → (x ≡ false) × (hits f vs ≡ [])
+    go true e = clash (cc)
+    go false e = (refl, e)
 
-  pub tally-leaf : childrenOf k ≡ 0 → tallyOf (walk a (treeOf b i)) ≡ o
-  tally-leaf h = all ∙ rw h (tally-nil o)
-
-  module _ {w : Around} (r : w ≡ inner k a) {l : Tally} (u : l ≡ tallyOf (walk w (treeOf b (i + 1)))) where
-    pub tally-one : childrenOf k ≡ 1 → tallyOf (walk a (treeOf b i)) ≡ sumOf o l
-    tally-one h = all ∙ rw (h, u, r)
-
-    pub tally-two : 2 ≤ childrenOf k → {j : ℕ} → j ≡ secondAt b i → {n : Tally} → n ≡ tallyOf (walk w (treeOf b j)) → tallyOf (walk a (treeOf b i)) ≡ sumOf (sumOf o l) n
-    tally-two h {j} e {n} v =
-        let c : childrenOf k ≡ 2 = omega (arith, ap childrenOf q, children-most b i p) in
-        all ∙ rw (c, v, e, u, r) (ap (sumOf o) (tally-append (walk (inner k a) (treeOf b (i + 1))) (walk (inner k a) (treeOf b (secondAt b i)))) ∙ sum-assoc o (tallyOf (walk (inner k a) (treeOf b (i + 1)))) (tallyOf (walk (inner k a) (treeOf b (secondAt b i)))))
+-- where no stage hits, every node passes
+pub hit-by-none : (vs : List Visit) → hits looseBreak vs ≡ [] → hits notPlain vs ≡ [] → hits deepLoop vs ≡ [] → hits endlessLoop vs ≡ [] → allPass vs ≡ true
+unfolding allPass
+hit-by-none [] e4 e5 e6 e7 = refl
+hit-by-none (v ∷ vs) e4 e5 e6 e7 =
+    let m4 = missed looseBreak v vs e4 in
+    let m5 = missed notPlain v vs e5 in
+    let m6 = missed deepLoop v vs e6 in
+    let m7 = missed endlessLoop v vs e7 in
+    rw (m5 .0, m4 .0, m6 .0, m7 .0) (hit-by-none vs (m4 .1) (m5 .1) (m6 .1) (m7 .1))
 
 -- ---- bounds
 
@@ -103,10 +141,6 @@ pub record Small (n : ℕ) (t : Tally) : Type 0 where
   pub outside : t .outside ≤ n
   pub inside : t .inside ≤ n
 
-one-most : (x : Bool) → oneIf x ≤ 1
-one-most true = omega arith
-one-most false = omega arith
-
 pub count-most : (f : Visit → Bool) (vs : List Visit) → count f vs ≤ length vs
 unfolding hits
 count-most f [] = omega arith
@@ -114,13 +148,6 @@ count-most f (v ∷ vs) = omega (arith, count-cons f v vs, one-most (f v), count
 
 pub small-by : {n : ℕ} {s t : Tally} → s ≡ t → Small n t → Small n s
 small-by {n} e h = subst (Small n) (sym e) h
-
-pub own-small : (k : ℕ) (a : Around) (x : Bool) → Small 1 (ownTally k a x)
-unfolding ownTally
-own-small k a x = record { emits = one-most (eqb k 10); outside = one-most (eqb k 7 && not (a .inEvery)); inside = one-most (eqb k 7 && a .inEvery) }
-
-pub sum-small : {m n : ℕ} {s t : Tally} → Small m s → Small n t → Small (m + n) (sumOf s t)
-sum-small h l = record { emits = omega (arith, h .emits, l .emits); outside = omega (arith, h .outside, l .outside); inside = omega (arith, h .inside, l .inside) }
 
 pub walk-small : (b : List ℕ) (i : ℕ) → Place b i → recordsOf b ≤ 256 → (a : Around) → Small 256 (tallyOf (walk a (treeOf b i)))
 unfolding tallyOf
@@ -131,6 +158,3 @@ walk-small b i p l a =
       outside = omega (arith, count-most outsideEvery (walk a (treeOf b i)));
       inside = omega (arith, count-most insideEvery (walk a (treeOf b i)));
     }
-
-pub plus-fits : {m n : ℕ} {s t : Tally} → Small m s → Small n t → m + n ≤ 65535 → (s .emits + t .emits ≤ 65535) × (s .outside + t .outside ≤ 65535) × (s .inside + t .inside ≤ 65535)
-plus-fits h l e = (omega (arith, h .emits, l .emits), omega (arith, h .outside, l .outside), omega (arith, h .inside, l .inside))

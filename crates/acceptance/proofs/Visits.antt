@@ -61,7 +61,7 @@ module _ (b : List ℕ) (i : ℕ) {k : ℕ} (e : k ≡ kindAt b i) (s : ℕ) (a 
 
 -- ---- whether it passes them all
 module _ (b : List ℕ) (i : ℕ) {k : ℕ} (e : k ≡ kindAt b i) (a : Around) where
-  passes-by : passes (visitAt b a i) ≡ not (((a .inEvery || a .inFin) && not (leb k 7 || eqb k 12 || eqb k 13)) || (eqb k 11 && eqb (a .loops) 0) || (eqb k 14 && leb mostLoops (a .loops)) || (eqb k 14 && mayEnd (treeOf b (i + 1))))
+  pub passes-by : passes (visitAt b a i) ≡ not (((a .inEvery || a .inFin) && not (leb k 7 || eqb k 12 || eqb k 13)) || (eqb k 11 && eqb (a .loops) 0) || (eqb k 14 && leb mostLoops (a .loops)) || (eqb k 14 && mayEnd (treeOf b (i + 1))))
   unfolding visitAt
   passes-by = rw e
 

@@ -1,19 +1,20 @@
 // The announced numbers, from what a walk counts.
 ghost use mathlib.Core.Path.{_≡_};
-ghost use mathlib.Core.Bool.{_&&_};
-ghost use Prim.Native.Nat.{_+_, _≤_, _<_, max};
+ghost use mathlib.Core.Bool.{false, not, _&&_, _||_};
+ghost use Prim.Native.Nat.{_≤_, _<_};
+ghost use lib.Dec.{eqb, leb};
 ghost use Rattle.rules.specs.Limits.{mostRecords, mostLoops};
-ghost use Rattle.rules.specs.Table.{recordsOf};
+ghost use Rattle.rules.specs.Table.{kindAt, recordsOf};
 ghost use Rattle.rules.specs.Check.{walk, deepest, visitsOf, announced};
+ghost use Rattle.table.specs.Kinds.{childrenOf};
 ghost use Rattle.table.specs.Places.{Place, treeOf};
-ghost use Rattle.acceptance.specs.Walks.{aroundOf};
-ghost use Rattle.acceptance.specs.Counts.{tallied, ownTally, sumOf, tallyOf, announcedOf};
+ghost use Rattle.acceptance.specs.Rows.{Row, free, oneMore, deeper, countKind, countOutput, Adds, AddsPlain, AddsFrom};
+ghost use Rattle.acceptance.specs.Counts.{tallyOf, Tallied, announcedOf};
 use crate::Announced;
 use crate::walks;
-use crate::walks::Around;
 use rules::Limits;
 
-// Emits, the deepest nesting of loops, outputs outside and inside an every; and whether every construct passes stages 4 to 7.
+// Whether every construct passes stages 4 to 7; if so, emits, the deepest nesting of loops, outputs outside and inside an every.
 pub struct Tally {
     pub emits: u16,
     pub deepest: u16,
@@ -22,101 +23,134 @@ pub struct Tally {
     pub right: bool,
 }
 
-fn higher(a: u16, b: u16) -> u16
-    ensures { λ r. ⌜ r ≡ max a b ⌝ }
+// One more at k; it stops at the largest number, to which no table comes.
+fn one_more(counts: &mut [u16; 4], k: usize)
+    requires { ⌜ k < 4 ⌝ }
+    ensures { λ _. ⌜ now (counts .exit) ≡ oneMore k (now (counts .entry)) ⌝ }
 {
-    if a <= b { b } else { a }
-}
-
-fn both(a: bool, b: bool) -> bool
-    ensures { λ r. ⌜ r ≡ (a && b) ⌝ }
-{
-    a && b
-}
-
-impl Tally {
-    // Of a construct of which nothing is counted.
-    fn nothing(right: bool) -> Tally
-        ensures { λ r. ⌜ r ≡ tallied 0 0 0 0 right ⌝ }
-    {
-        Tally {
-            emits: 0,
-            deepest: 0,
-            outside: 0,
-            inside: 0,
-            right,
-        }
-    }
-
-    // Of one construct.
-    fn own(kind: usize, around: Around, right: bool) -> Tally
-        requires { ⌜ around .loops < 65535 ⌝ }
-        ensures { λ r. ⌜ r ≡ ownTally kind (aroundOf around) right ⌝ }
-    {
-        let mut own = Tally::nothing(right);
-        if kind == 10 {
-            own.emits = 1;
-            return own;
-        }
-        if kind == 14 {
-            own.deepest = (around.loops + 1) as u16;
-            return own;
-        }
-        if kind != 7 {
-            return own;
-        }
-        if around.in_every {
-            own.inside = 1;
-            return own;
-        }
-        own.outside = 1;
-        own
-    }
-
-    fn plus(self, other: Tally) -> Tally
-        requires { ⌜ (self .emits + other .emits ≤ 65535) × (self .outside + other .outside ≤ 65535) × (self .inside + other .inside ≤ 65535) ⌝ }
-        ensures { λ r. ⌜ r ≡ sumOf self other ⌝ }
-    {
-        let deepest = higher(self.deepest, other.deepest);
-        Tally {
-            emits: self.emits + other.emits,
-            deepest,
-            outside: self.outside + other.outside,
-            inside: self.inside + other.inside,
-            right: both(self.right, other.right),
-        }
+    let n = counts[k];
+    if n < 65535 {
+        counts[k] = n + 1;
     }
 }
 
-// Of the construct at place i and all below it.
-fn tally_at(table: &[u8], i: usize, around: Around) -> Tally
-    requires { ⌜ Place (now table) i ⌝ }
-    requires { ⌜ (recordsOf (now table) ≤ mostRecords) × (around .loops ≤ i) ⌝ }
-    ensures { λ r. ⌜ r ≡ tallyOf (walk (aroundOf around) (treeOf (now (table .entry)) i)) ⌝ }
+// Loops so many deep.
+fn deeper(counts: &mut [u16; 4], depth: u16)
+    ensures { λ _. ⌜ now (counts .exit) ≡ deeper depth (now (counts .entry)) ⌝ }
 {
-    let kind = table::kind_at(table, i);
-    let own = Tally::own(kind, around, walks::node_right(table, i, around));
-    // Kinds from 12 on have children.
-    if kind < 12 {
-        return own;
+    if counts[1] < depth {
+        counts[1] = depth;
     }
+}
+
+// A construct of this kind, without a child or with two, under no every and no fin: whether it passes stages 4 to 7.
+fn count_one(kind: usize, loops: usize, counts: &mut [u16; 4]) -> bool
+    ensures { λ r. ⌜ (r ≡ not (eqb kind 11 && eqb loops 0)) × (now (counts .exit) ≡ countKind kind false (now (counts .entry))) ⌝ }
+{
+    if kind == 7 {
+        one_more(counts, 2);
+        return true;
+    }
+    if kind == 10 {
+        one_more(counts, 0);
+        return true;
+    }
+    if kind == 11 {
+        return loops != 0;
+    }
+    true
+}
+
+// The same under an every or a fin.
+fn plain_one(kind: usize, every: bool, counts: &mut [u16; 4]) -> bool
+    ensures { λ r. ⌜ (r ≡ (leb kind 7 || eqb kind 12 || eqb kind 13)) × (now (counts .exit) ≡ countOutput kind every (now (counts .entry))) ⌝ }
+{
+    if kind != 7 {
+        return walks::is_plain(kind);
+    }
+    if every {
+        one_more(counts, 3);
+        return true;
+    }
+    one_more(counts, 2);
+    true
+}
+
+// Under an every or a fin, from place i on, up to the place end: whether all pass stages 4 to 7; if so, they are counted. The places are gone
+// through one by one, since what stands around them is the same.
+fn plain_from(table: &&[u8], i: usize, end: usize, every: bool, counts: &mut [u16; 4]) -> bool
+    requires { ⌜ Row (now (now table)) end i ⌝ }
+    ensures { λ r. ⌜ AddsPlain r every (now (now (table .entry))) end i (now (counts .entry)) (now (counts .exit)) ⌝ }
+{
+    if end <= i {
+        return true;
+    }
+    let kind = table::kind_at(*table, i);
+    if !plain_one(kind, every, counts) {
+        return false;
+    }
+    plain_from(table, i + 1, end, every, counts)
+}
+
+// The construct with one child at place i, and all below it.
+fn count_under(table: &&[u8], i: usize, loops: usize, counts: &mut [u16; 4]) -> bool
+    requires { ⌜ Place (now (now table)) i × (childrenOf (kindAt (now (now table)) i) ≡ 1) ⌝ }
+    ensures { λ r. ⌜ Adds r (walk (free loops) (treeOf (now (now (table .entry))) i)) (now (counts .entry)) (now (counts .exit)) ⌝ }
+{
+    let kind = table::kind_at(*table, i);
+    let first = walks::first_at(*table, i);
+    let end = walks::end_at(*table, i);
+    if kind != 14 {
+        return plain_from(table, first, end, kind != 19, counts);
+    }
+    if Limits::LOOPS <= loops {
+        return false;
+    }
+    if walks::may_end(table, first) {
+        return false;
+    }
+    deeper(counts, (loops + 1) as u16);
+    count_from(table, first, end, loops + 1, counts)
+}
+
+// Under so many loops, no every and no fin, from place i on, up to the place end.
+fn count_from(table: &&[u8], i: usize, end: usize, loops: usize, counts: &mut [u16; 4]) -> bool
+    requires { ⌜ Row (now (now table)) end i ⌝ }
+    ensures { λ r. ⌜ AddsFrom r loops (now (now (table .entry))) end i (now (counts .entry)) (now (counts .exit)) ⌝ }
+{
+    if end <= i {
+        return true;
+    }
+    let kind = table::kind_at(*table, i);
     if table::children_of(kind) == 1 {
-        let inside = around.within(kind);
-        return own.plus(tally_at(table, i + 1, inside));
+        if !count_under(table, i, loops, counts) {
+            return false;
+        }
+        let after = walks::end_at(*table, i);
+        return count_from(table, after, end, loops, counts);
     }
-    // A construct of two children is no loop, no every and no fin.
-    let left = own.plus(tally_at(table, i + 1, around));
-    let next = table::second_at(table, i);
-    left.plus(tally_at(table, next, around))
+    if !count_one(kind, loops, counts) {
+        return false;
+    }
+    count_from(table, i + 1, end, loops, counts)
 }
 
 // Of the whole program.
 pub fn tally_of_program(table: &[u8]) -> Tally
     requires { ⌜ Place (now table) 0 ⌝ }
     requires { ⌜ recordsOf (now table) ≤ mostRecords ⌝ }
-    ensures { λ r. ⌜ r ≡ tallyOf (visitsOf (now (table .entry))) ⌝ }
+    ensures { λ r. ⌜ Tallied r (visitsOf (now (table .entry))) ⌝ }
 {
-    tally_at(table, 0, Around::nothing())
+    let mut counts = [0u16; 4];
+    let records = table.len() / Limits::RECORD_BYTES;
+    let right = count_from(&table, 0, records, 0, &mut counts);
+    Tally {
+        emits: counts[0],
+        deepest: counts[1],
+        outside: counts[2],
+        inside: counts[3],
+        right,
+    }
 }
 
 // The announced numbers of a program with this tally.

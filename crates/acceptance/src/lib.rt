@@ -62,10 +62,11 @@ fn check_nodes(table: &[u8]) -> Checked
     if let Found::At(place) = walks::first_of_program(table, 6) {
         return refused(6, place);
     }
-    if let Found::At(place) = walks::first_of_program(table, 7) {
-        return refused(7, place);
+    match walks::first_of_program(table, 7) {
+        Found::At(place) => refused(7, place),
+        // Some construct fails, so that this is never so.
+        Found::Nothing => refused(7, 0),
     }
-    Checked::Accepted(counts::announced(table, tally))
 }
 
 pub fn check(table: &[u8]) -> Checked

@@ -1,32 +1,51 @@
-// Stages 4 to 7: recursive walks over the tree, the span falling at each call.
+// Stages 4 to 7: recursive walks over the tree, the span falling at each call. What the check of every table pays for takes the table behind two
+// references: a call then hands on one address, and a last call is a jump.
 ghost use mathlib.Core.Path.{_≡_};
-ghost use mathlib.Core.Bool.{_||_};
+ghost use mathlib.Core.Bool.{not, _&&_, _||_};
 ghost use lib.Dec.{eqb, leb};
-ghost use Prim.Native.Nat.{_≤_, _<_};
+ghost use Prim.Native.Nat.{_+_, _≤_, _<_};
+ghost use Rattle.rules.specs.Table.{spanAt, recordsOf};
 ghost use Rattle.rules.specs.Check.{mayBreak, mayEnd, walk, hits, visitsOf, nothingAround};
 ghost use Rattle.table.specs.Places.{Place, treeOf};
 ghost use Rattle.table.specs.Found.{Inside, firstOf};
-ghost use Rattle.acceptance.specs.Walks.{aroundOf, inner, visitAt, passes, failsOf, first};
+ghost use Rattle.acceptance.specs.Walks.{aroundOf, inner, visitAt, failsOf, first};
 use rules::Limits;
 use table::Found;
 
-// Whether a break stands at place i or below with no nearer loop.
-pub fn may_break(table: &[u8], i: usize) -> bool
-    requires { ⌜ Place (now table) i ⌝ }
-    ensures { λ r. ⌜ r ≡ mayBreak (treeOf (now (table .entry)) i) ⌝ }
+// The place of the first child, where the record at place i has one.
+pub fn first_at(table: &[u8], i: usize) -> usize
+    requires { ⌜ i < recordsOf (now table) ⌝ }
+    ensures { λ r. ⌜ r ≡ i + 1 ⌝ }
 {
-    let children = table::children_at(table, i);
+    i + 1
+}
+
+// The place behind the construct at place i.
+pub fn end_at(table: &[u8], i: usize) -> usize
+    requires { ⌜ i < recordsOf (now table) ⌝ }
+    ensures { λ r. ⌜ r ≡ i + spanAt (now (table .entry)) i ⌝ }
+{
+    i + table::span_at(table, i)
+}
+
+// Whether a break stands at place i or below with no nearer loop.
+pub fn may_break(table: &&[u8], i: usize) -> bool
+    requires { ⌜ Place (now (now table)) i ⌝ }
+    ensures { λ r. ⌜ r ≡ mayBreak (treeOf (now (now (table .entry))) i) ⌝ }
+{
+    let children = table::children_at(*table, i);
     if children == 0 {
-        return table::kind_at(table, i) == 11;
+        return table::kind_at(*table, i) == 11;
     }
     // A loop keeps its own; under an every or a fin there is none.
     if children < 2 {
         return false;
     }
-    if may_break(table, i + 1) {
+    let first = first_at(*table, i);
+    if may_break(table, first) {
         return true;
     }
-    let next = table::second_at(table, i);
+    let next = table::second_at(*table, i);
     may_break(table, next)
 }
 
@@ -37,33 +56,53 @@ fn either_suffices(kind: usize) -> bool
     kind == 12 || kind == 18
 }
 
-// Whether the construct at place i may end at once.
-pub fn may_end(table: &[u8], i: usize) -> bool
-    requires { ⌜ Place (now table) i ⌝ }
-    ensures { λ r. ⌜ r ≡ mayEnd (treeOf (now (table .entry)) i) ⌝ }
+// A construct without children: only an await of input and a break do not end.
+fn leaf_ends(kind: usize) -> bool
+    ensures { λ r. ⌜ r ≡ (not (eqb kind 8) && not (eqb kind 11)) ⌝ }
 {
-    let kind = table::kind_at(table, i);
+    kind != 8 && kind != 11
+}
+
+// Whether the construct at place i may end at once.
+pub fn may_end(table: &&[u8], i: usize) -> bool
+    requires { ⌜ Place (now (now table)) i ⌝ }
+    ensures { λ r. ⌜ r ≡ mayEnd (treeOf (now (now (table .entry))) i) ⌝ }
+{
+    let kind = table::kind_at(*table, i);
     if kind < 12 {
-        return kind != 8 && kind != 11;
+        return leaf_ends(kind);
     }
+    let first = first_at(*table, i);
     if kind == 14 {
-        return may_break(table, i + 1);
+        return may_break(table, first);
     }
     if table::children_of(kind) == 1 {
         return false;
     }
     if either_suffices(kind) {
-        if may_end(table, i + 1) {
+        if part_may_end(table, first) {
             return true;
         }
-        let right = table::second_at(table, i);
+        let right = table::second_at(*table, i);
         return may_end(table, right);
     }
-    if !may_end(table, i + 1) {
+    if !part_may_end(table, first) {
         return false;
     }
-    let next = table::second_at(table, i);
+    let next = table::second_at(*table, i);
     may_end(table, next)
+}
+
+// The same of a part: one without children takes no walk.
+fn part_may_end(table: &&[u8], i: usize) -> bool
+    requires { ⌜ Place (now (now table)) i ⌝ }
+    ensures { λ r. ⌜ r ≡ mayEnd (treeOf (now (now (table .entry))) i) ⌝ }
+{
+    let kind = table::kind_at(*table, i);
+    if kind < 12 {
+        return leaf_ends(kind);
+    }
+    may_end(table, i)
 }
 
 // What stands around a construct.
@@ -125,7 +164,7 @@ impl Around {
 }
 
 // Kinds 0 to 7, 12, 13.
-fn is_plain(kind: usize) -> bool
+pub fn is_plain(kind: usize) -> bool
     ensures { λ r. ⌜ r ≡ (leb kind 7 || eqb kind 12 || eqb kind 13) ⌝ }
 {
     if kind <= 7 {
@@ -152,31 +191,7 @@ fn node_fails(table: &[u8], i: usize, stage: u8, around: Around) -> bool
     if kind != 14 {
         return false;
     }
-    may_end(table, i + 1)
-}
-
-// Whether the construct at place i passes stages 4 to 7.
-pub fn node_right(table: &[u8], i: usize, around: Around) -> bool
-    requires { ⌜ Place (now table) i ⌝ }
-    ensures { λ r. ⌜ r ≡ passes (visitAt (now (table .entry)) (aroundOf around) i) ⌝ }
-{
-    let kind = table::kind_at(table, i);
-    if is_plain(kind) {
-        return true;
-    }
-    if around.confined() {
-        return false;
-    }
-    if kind == 11 {
-        return around.loops != 0;
-    }
-    if kind != 14 {
-        return true;
-    }
-    if Limits::LOOPS <= around.loops {
-        return false;
-    }
-    !may_end(table, i + 1)
+    may_end(&table, i + 1)
 }
 
 // The lowest place from i on, within the construct there, that fails a stage.
