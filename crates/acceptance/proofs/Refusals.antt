@@ -132,6 +132,9 @@ shallow (v ∷ vs) e = go (shallow vs) (isKind 14 v) (leb mostLoops (v .around .
     go f true false q e = omega (arith, leb-false mostLoops (v .around .loops) q, f e)
     go f false w q e = omega (arith, f e)
 
+pub few-loops : (b : List ℕ) {z : Found} → Finds b 6 z → z ≡ Nothing → deepest (visitsOf b) ≤ mostLoops
+few-loops b e d = shallow (visitsOf b) (found-none (hits (failsOf 6) (visitsOf b)) e d)
+
 -- ---- where the tally is right, no stage from 4 to 7 fails
 module _ (b : List ℕ) {t : Tally} (e : Tallied t (visitsOf b)) (h : t .right ≡ true) where
   tally-passes : T (allPass (visitsOf b))
