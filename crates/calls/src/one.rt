@@ -29,11 +29,13 @@ fn start_tested(
     ensures { λ r. ⌜ Uncounted (startCall (now (table .entry)) (lent (now (marks .entry)) (now (vars .entry)) (now (out .entry)))) r (now (marks .exit)) (now (vars .exit)) (now (out .exit)) ⌝ }
 {
     let mut st: [u32; Limits::RECORDS] = [0; Limits::RECORDS];
+    let mut awaited: [u16; Limits::RECORDS] = [0; Limits::RECORDS];
     let mut held: [i32; Limits::VARIABLES] = [0; Limits::VARIABLES];
     let mut counts: [u64; 2] = [0; 2];
     load_vars(vars, &mut held);
+    engine::listen(table, &mut awaited);
     held[0] = 0;
-    let round = engine::begin(table, steps, &mut st, &mut held, out, &mut counts);
+    let round = engine::begin(table, steps, &awaited, &mut st, &mut held, out, &mut counts);
     finish(
         0,
         0,
@@ -72,15 +74,18 @@ fn react_tested(
     ensures { λ r. ⌜ Uncounted (reactCall (now (table .entry)) (lent (now (marks .entry)) (now (vars .entry)) (now (out .entry))) (sentOf event value)) r (now (marks .exit)) (now (vars .exit)) (now (out .exit)) ⌝ }
 {
     let mut st: [u32; Limits::RECORDS] = [0; Limits::RECORDS];
+    let mut awaited: [u16; Limits::RECORDS] = [0; Limits::RECORDS];
     let mut held: [i32; Limits::VARIABLES] = [0; Limits::VARIABLES];
     let mut counts: [u64; 2] = [0; 2];
     load_marks(marks, &mut st);
     load_vars(vars, &mut held);
+    engine::listen(table, &mut awaited);
     held[0] = value;
     let round = engine::react(
         table,
         event as usize,
         steps,
+        &awaited,
         &mut st,
         &mut held,
         out,

@@ -4,4 +4,6 @@ pub mod Waking
 pub mod Clearing
 pub mod Fresh
 pub mod Live
+pub mod Resting
+pub mod Listening
 pub mod Rounds

@@ -1,11 +1,13 @@
 // The walks of a running program over one state for each record: 0 idle, 1 waiting, 2 woken, 3 + m a turn of level m.
 mod clear;
 mod exec;
+mod listeners;
 mod resume;
 mod round;
 mod settle;
 mod wake;
 
+pub use listeners::listen;
 pub use round::begin;
 pub use round::react;
 

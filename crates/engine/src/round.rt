@@ -4,13 +4,15 @@ ghost use Prim.Native.Nat.{_+_, _≤_, max};
 ghost use Rattle.theory.specs.Round.{eventOf, heard, onward, pushed, rounds, react, begin};
 ghost use Rattle.table.specs.Places.{treeOf};
 ghost use Rattle.memory.specs.Arrays.{arrays};
+ghost use Rattle.engine.specs.Listening.{Listens};
 ghost use Rattle.engine.specs.Walks.{Spot, arrayOps, howOf, eventFrom, mostRounds, roundOf};
 use crate::How;
 use crate::Rounded;
 use crate::exec::exec;
 use crate::resume::resume;
-use crate::wake::awake;
+use crate::wake::all_wait;
 use crate::wake::blocked;
+use crate::wake::wake;
 use memory::tick;
 use rules::Limits;
 
@@ -58,6 +60,9 @@ fn onward(
     ensures { λ r. ⌜ heard r (now (st .exit)) (arrays (now (vars .exit)) (now (out .exit)) (now (counts .exit))) ≡ onward arrayOps (treeOf (now (table .entry)) 0) level (now (st .entry)) (arrays (now (vars .entry)) (now (out .entry)) (now (counts .entry))) ⌝ }
 {
     let n = level + 3;
+    if all_wait(table.len() / Limits::RECORD_BYTES, st) {
+        return 0;
+    }
     if blocked(table, 0, n, st) {
         return 0;
     }
@@ -71,16 +76,17 @@ fn pushed(
     input: bool,
     event: usize,
     level: u32,
+    awaited: &[u16; Limits::RECORDS],
     st: &mut [u32; Limits::RECORDS],
     vars: &mut [i32; Limits::VARIABLES],
     out: &mut [u8],
     counts: &mut [u64; 2],
 ) -> usize
     requires { ⌜ Spot (now table) 0 ⌝ }
-    requires { ⌜ level ≤ mostRounds + 1 ⌝ }
+    requires { ⌜ (level ≤ mostRounds + 1) × Listens (now table) (now awaited) ⌝ }
     ensures { λ r. ⌜ heard r (now (st .exit)) (arrays (now (vars .exit)) (now (out .exit)) (now (counts .exit))) ≡ pushed arrayOps (treeOf (now (table .entry)) 0) (eventFrom input event) level (now (st .entry)) (arrays (now (vars .entry)) (now (out .entry)) (now (counts .entry))) ⌝ }
 {
-    awake(table, 0, input, event, st);
+    wake(table, input, event, awaited, st);
     onward(table, level, st, vars, out, counts)
 }
 
@@ -89,13 +95,14 @@ fn rounds(
     table: &[u8],
     most: u32,
     first: usize,
+    awaited: &[u16; Limits::RECORDS],
     st: &mut [u32; Limits::RECORDS],
     vars: &mut [i32; Limits::VARIABLES],
     out: &mut [u8],
     counts: &mut [u64; 2],
 ) -> Rounded
     requires { ⌜ Spot (now table) 0 ⌝ }
-    requires { ⌜ most ≤ mostRounds ⌝ }
+    requires { ⌜ (most ≤ mostRounds) × Listens (now table) (now awaited) ⌝ }
     ensures { λ r. ⌜ roundOf r (now (st .exit)) (arrays (now (vars .exit)) (now (out .exit)) (now (counts .exit))) ≡ rounds arrayOps (treeOf (now (table .entry)) 0) most first 1 0 1 (now (st .entry)) (arrays (now (vars .entry)) (now (out .entry)) (now (counts .entry))) ⌝ }
 {
     let mut left = most;
@@ -117,7 +124,7 @@ fn rounds(
         level += 1;
         emitted += 1;
         highest = larger(highest, level);
-        event = pushed(table, false, event, level, st, vars, out, counts);
+        event = pushed(table, false, event, level, awaited, st, vars, out, counts);
     }
     rounded(false, emitted, highest)
 }
@@ -127,35 +134,37 @@ pub fn react(
     table: &[u8],
     event: usize,
     most: u32,
+    awaited: &[u16; Limits::RECORDS],
     st: &mut [u32; Limits::RECORDS],
     vars: &mut [i32; Limits::VARIABLES],
     out: &mut [u8],
     counts: &mut [u64; 2],
 ) -> Rounded
     requires { ⌜ Spot (now table) 0 ⌝ }
-    requires { ⌜ most ≤ mostRounds ⌝ }
+    requires { ⌜ (most ≤ mostRounds) × Listens (now table) (now awaited) ⌝ }
     ensures { λ r. ⌜ roundOf r (now (st .exit)) (arrays (now (vars .exit)) (now (out .exit)) (now (counts .exit))) ≡ react arrayOps (treeOf (now (table .entry)) 0) most event (now (st .entry)) (arrays (now (vars .entry)) (now (out .entry)) (now (counts .entry))) ⌝ }
 {
     tick(counts);
-    let first = pushed(table, true, event, 1, st, vars, out, counts);
-    rounds(table, most, first, st, vars, out, counts)
+    let first = pushed(table, true, event, 1, awaited, st, vars, out, counts);
+    rounds(table, most, first, awaited, st, vars, out, counts)
 }
 
 // A start: the program itself begins at level 1.
 pub fn begin(
     table: &[u8],
     most: u32,
+    awaited: &[u16; Limits::RECORDS],
     st: &mut [u32; Limits::RECORDS],
     vars: &mut [i32; Limits::VARIABLES],
     out: &mut [u8],
     counts: &mut [u64; 2],
 ) -> Rounded
     requires { ⌜ Spot (now table) 0 ⌝ }
-    requires { ⌜ most ≤ mostRounds ⌝ }
+    requires { ⌜ (most ≤ mostRounds) × Listens (now table) (now awaited) ⌝ }
     ensures { λ r. ⌜ roundOf r (now (st .exit)) (arrays (now (vars .exit)) (now (out .exit)) (now (counts .exit))) ≡ begin arrayOps (treeOf (now (table .entry)) 0) most (now (st .entry)) (arrays (now (vars .entry)) (now (out .entry)) (now (counts .entry))) ⌝ }
 {
     tick(counts);
     let how = exec(table, 0, 4, st, vars, out, counts);
     let first = event_of(how);
-    rounds(table, most, first, st, vars, out, counts)
+    rounds(table, most, first, awaited, st, vars, out, counts)
 }

@@ -7,7 +7,7 @@ use Rattle.engine.proofs.round.pushed.Tie as tie
 
 returns : tie.Need-returns
 unfolding pushed
-returns c = rw (← c .before .before .before .before .before .before .before .awake .ensures) (c .before .before .onward .ensures)
+returns c = rw (← c .before .before .before .before .before .before .before .wake .ensures) (c .before .before .onward .ensures)
 
 pub pushed-spec : {M : Type 1} → statement M
-pushed-spec = tie.close (tie.spec (λ c κs. search needs) (λ c κs. search needs) (λ c. search needs) returns)
+pushed-spec = tie.close (tie.spec (λ c κs. (c .before .before .before .pre .0, c .before .before .before .pre .1 .1)) (λ c κs. (c .before .before .before .before .before .before .before .before .pre .0, c .before .before .before .before .before .before .before .before .pre .1 .0)) (λ c. search needs) returns)
