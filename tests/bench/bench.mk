@@ -16,7 +16,7 @@ BENCH_FLAGS := -std=c99 -O2 $(call toolchain,warnings) -Iinclude
 BENCH_RUN := $(call toolchain,emulator)
 
 BENCH_QUICK := $(patsubst $(BENCH_DIR)/%.c,%,$(wildcard $(BENCH_DIR)/quick*.c))
-BENCH_HEADERS := $(wildcard $(BENCH_DIR)/*.h $(BENCH_DIR)/*.inc) include/landarbeso.h $(BENCH_DIR)/bench.mk tests/toolchain.sh
+BENCH_HEADERS := $(wildcard $(BENCH_DIR)/*.h $(BENCH_DIR)/*.inc) tests/kinds.h include/landarbeso.h $(BENCH_DIR)/bench.mk tests/toolchain.sh
 
 .PHONY: bench bench-compare
 bench: $(BENCH_TARGET)/bench $(BENCH_TARGET)/stack

@@ -7,6 +7,8 @@
 #include <stdint.h>
 #include <string.h>
 
+#include "../kinds.h"
+
 enum {
     RECORD_BYTES = 8,
     MOST_RECORDS = 256,
@@ -14,30 +16,6 @@ enum {
     VARIABLES = 64,
     LAST_NAME = 63,
     MOST_LIST_BYTES = 65536
-};
-
-enum kind {
-    NOTHING,
-    SET,
-    ADD,
-    COPY,
-    SUBTRACT,
-    LESS,
-    DIVIDE,
-    OUTPUT,
-    AWAIT_INPUT,
-    AWAIT_INTERNAL,
-    EMIT,
-    BREAK,
-    IF,
-    SEQUENCE,
-    LOOP,
-    EVERY_INPUT,
-    EVERY_INTERNAL,
-    AND,
-    OR,
-    FIN,
-    KINDS
 };
 
 /* For what is taken apart only to be read: it stays one function. */

@@ -12,6 +12,7 @@
 #include <stdint.h>
 
 #include "independent.h"
+#include "../kinds.h"
 
 /* How many entries an array has. */
 #define COUNT(row) (sizeof(row) / sizeof *(row))
@@ -30,30 +31,6 @@ enum {
     MOST_FEW = 8,
     GUARD = 64, /* bytes on both sides of each slice */
     NEVER = -1
-};
-
-enum kind {
-    NOTHING,
-    SET,
-    ADD,
-    COPY,
-    SUBTRACT,
-    LESS,
-    DIVIDE,
-    OUTPUT,
-    AWAIT_INPUT,
-    AWAIT_INTERNAL,
-    EMIT,
-    BREAK,
-    IF,
-    SEQUENCE,
-    LOOP,
-    EVERY_INPUT,
-    EVERY_INTERNAL,
-    AND,
-    OR,
-    FIN,
-    KINDS
 };
 
 enum call_kind { CHECK, START, REACT, RUN_LIST, QUERY, REMAINING, CALLS };

@@ -4,33 +4,7 @@
 #define CALLS_H
 
 #include "landarbeso.h"
-
-/* Document 01's kinds, in its order. */
-enum kind {
-    NOTHING,
-    SET,
-    ADD,
-    COPY,
-    SUBTRACT,
-    LESS,
-    DIVIDE,
-    OUTPUT,
-    AWAIT_INPUT,
-    AWAIT_INTERNAL,
-    EMIT,
-    BREAK,
-    IF,
-    SEQUENCE,
-    LOOP,
-    EVERY_INPUT,
-    EVERY_INTERNAL,
-    AND,
-    OR,
-    FIN,
-    BEGUN_LOOP, /* in a remaining program only */
-    BEGUN_AND,
-    BEGUN_OR
-};
+#include "../kinds.h"
 
 enum { RECORD_BYTES = 8, VARIABLES = 64, ROOM = 96, BEHIND = 0xA5 };
 

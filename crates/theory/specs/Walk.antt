@@ -274,6 +274,9 @@ walk-inside a (atPar i o p q) e h g = absurd h
 loose-here : (a : Around) (i : ℕ) → a .loops ≡ 0 → looseBreak (visit i 11 a) ≡ false → ⊥
 loose-here a i e m = let z : eqb 0 0 ≡ false = subst (λ n. eqb n 0 ≡ false) e m in clash (cc)
 
+closed-both : (p q : Tree) (vs ws : List Visit) → Misses looseBreak (vs ++ ws) → (Misses looseBreak vs → T (loose p) → ⊥) → (Misses looseBreak ws → T (loose q) → ⊥) → T (loose p || loose q) → ⊥
+closed-both p q vs ws m f g x = or-cases (loose p) (loose q) (f (left-misses looseBreak vs ws m)) (g (right-misses looseBreak vs ws m)) x
+
 pub closed-walk : (a : Around) (t : Tree) → a .loops ≡ 0 → Program t → Misses looseBreak (walk a t) → T (loose t) → ⊥
 unfolding walk loose Program
 closed-walk a (nop i) e h m x = x
@@ -281,14 +284,11 @@ closed-walk a (act i o v k) e h m x = x
 closed-walk a (await i s b) e h m x = x
 closed-walk a (emit i b y) e h m x = x
 closed-walk a (break i) e h m x = loose-here a i e (head-misses m)
-closed-walk a (ifvar i v p q) e h m x =
-    or-cases (loose p) (loose q) (closed-walk a p e (h .0) (left-misses looseBreak (walk a p) (walk a q) (tail-misses m))) (closed-walk a q e (h .1) (right-misses looseBreak (walk a p) (walk a q) (tail-misses m))) x
-closed-walk a (seq i p q) e h m x =
-    or-cases (loose p) (loose q) (closed-walk a p e (h .0) (left-misses looseBreak (walk a p) (walk a q) (tail-misses m))) (closed-walk a q e (h .1) (right-misses looseBreak (walk a p) (walk a q) (tail-misses m))) x
+closed-walk a (ifvar i v p q) e h m x = closed-both p q (walk a p) (walk a q) (tail-misses m) (closed-walk a p e (h .0)) (closed-walk a q e (h .1)) x
+closed-walk a (seq i p q) e h m x = closed-both p q (walk a p) (walk a q) (tail-misses m) (closed-walk a p e (h .0)) (closed-walk a q e (h .1)) x
 closed-walk a (loop i p) e h m x = x
 closed-walk a (every i s b p) e h m x = x
-closed-walk a (par i o p q) e h m x =
-    or-cases (loose p) (loose q) (closed-walk a p e (h .0) (left-misses looseBreak (walk a p) (walk a q) (tail-misses m))) (closed-walk a q e (h .1) (right-misses looseBreak (walk a p) (walk a q) (tail-misses m))) x
+closed-walk a (par i o p q) e h m x = closed-both p q (walk a p) (walk a q) (tail-misses m) (closed-walk a p e (h .0)) (closed-walk a q e (h .1)) x
 closed-walk a (fin i p) e h m x = x
 closed-walk a (canrun i k) e h m x = absurd h
 closed-walk a (atLoop i p q) e h m x = absurd h
