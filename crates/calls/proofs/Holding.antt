@@ -30,7 +30,8 @@ use Rattle.table.specs.Places.{treeOf}
 use Rattle.memory.specs.Arrays.{Arrays, arrays}
 use Rattle.memory.specs.Stands.{Stands}
 use Rattle.memory.proofs.Standing.{after, effect-after, stands-acts, stands-test, stands-tick}
-use Rattle.engine.specs.Walks.{arrayOps, mostRounds, roundOf}
+use Rattle.walks.specs.Walks.{arrayOps}
+use Rattle.engine.specs.Running.{mostRounds, roundOf}
 use Rattle.engine.specs.declared.Rounded.{Rounded}
 use Rattle.calls.proofs.Passed.{passed-emitted, passed-steps, program-is}
 

@@ -23,7 +23,8 @@ use Rattle.theory.specs.Round.{Round, react}
 use Rattle.table.specs.Places.{treeOf}
 use Rattle.memory.specs.Arrays.{Arrays, arrays}
 use Rattle.acceptance.specs.declared.Refusal as Code
-use Rattle.engine.specs.Walks.{arrayOps, mostRounds, roundOf}
+use Rattle.walks.specs.Walks.{arrayOps}
+use Rattle.engine.specs.Running.{mostRounds, roundOf}
 use Rattle.engine.specs.declared.Rounded.{Rounded}
 use Rattle.calls.specs.declared.Answer.{Answer}
 use Rattle.calls.specs.Answers.{Ran, Uncounted, lent, refusalNumber, refusalPlace, sentOf}

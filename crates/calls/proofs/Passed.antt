@@ -19,7 +19,8 @@ use Rattle.table.specs.Found.{firstOf}
 use Rattle.table.proofs.Passed as Table
 use Rattle.acceptance.proofs.Refusals.{few-loops}
 use Rattle.acceptance.proofs.Tallies.{count-most}
-use Rattle.engine.specs.Walks.{Spot, mostRounds}
+use Rattle.walks.specs.Walks.{Spot}
+use Rattle.engine.specs.Running.{mostRounds}
 
 module _ (b : List ℕ) (e : firstRefusal (tableStages b) ≡ none) where
   abbrev s2 : Stage

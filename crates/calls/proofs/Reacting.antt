@@ -21,7 +21,8 @@ use Rattle.theory.specs.Round.{begin, react}
 use Rattle.table.specs.Places.{treeOf}
 use Rattle.memory.specs.Arrays.{arrays}
 use Rattle.memory.proofs.Standing.{stands-start}
-use Rattle.engine.specs.Walks.{arrayOps, roundOf}
+use Rattle.walks.specs.Walks.{arrayOps}
+use Rattle.engine.specs.Running.{roundOf}
 use Rattle.engine.specs.declared.Rounded.{Rounded}
 use Rattle.calls.specs.declared.Answer.{Answer}
 use Rattle.calls.specs.Answers.{Uncounted, lent, noTotals, sentOf}

@@ -33,7 +33,7 @@ fn start_tested(
     let mut held: [i32; Limits::VARIABLES] = [0; Limits::VARIABLES];
     let mut counts: [u64; 2] = [0; 2];
     load_vars(vars, &mut held);
-    engine::listen(table, &mut awaited);
+    walks::listen(table, &mut awaited);
     held[0] = 0;
     let round = engine::begin(table, steps, &awaited, &mut st, &mut held, out, &mut counts);
     finish(
@@ -79,7 +79,7 @@ fn react_tested(
     let mut counts: [u64; 2] = [0; 2];
     load_marks(marks, &mut st);
     load_vars(vars, &mut held);
-    engine::listen(table, &mut awaited);
+    walks::listen(table, &mut awaited);
     held[0] = value;
     let round = engine::react(
         table,

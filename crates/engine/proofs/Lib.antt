@@ -1,9 +1,5 @@
--- What the walks do at the tree of a place, by the kind of its record; and what their calls ask.
-pub mod Spots
-pub mod Waking
-pub mod Clearing
-pub mod Fresh
+-- What resume and blocked do at the tree of a place, by the kind of its record; and one turn of the round.
 pub mod Live
+pub mod Blocking
 pub mod Resting
-pub mod Listening
 pub mod Rounds

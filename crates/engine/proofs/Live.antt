@@ -16,8 +16,8 @@ use Rattle.table.specs.Kinds.{arity, rowOf, childrenOf}
 use Rattle.table.specs.Places.{Place, treeOf, Node, aNop, anAct, anAwait, anEmit, aBreak, anIf, aSeq, aLoop, anEvery, aPar, aFin}
 use Rattle.table.proofs.Trees.{tree-kind, node-at}
 use Rattle.memory.specs.Arrays.{Arrays}
-use Rattle.engine.specs.Walks.{arrayOps, parKind, parOf}
-use Rattle.engine.proofs.Spots.{children, tree-par}
+use Rattle.walks.specs.Walks.{arrayOps, parKind, parOf}
+use Rattle.walks.proofs.Spots.{children, tree-par}
 
 module _ (b : List ℕ) (i : ℕ) (p : Place b i) (l : List ℕ) (m : Arrays) (n : ℕ) where
   pub resume-await : (s : Source) → kindAt b i ≡ bySource s 8 → resume arrayOps n (treeOf b i) l m ≡ resumeAwait arrayOps i l m

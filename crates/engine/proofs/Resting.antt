@@ -17,7 +17,7 @@ use Rattle.table.specs.Places.{Place, treeOf, Node, aNop, anAct, anAwait, anEmi
 use Rattle.table.proofs.Places.{root-span, span-pos, down-place, down-falls, next-place, next-falls}
 use Rattle.table.proofs.Trees.{node-at}
 use Rattle.engine.specs.Resting.{stirring}
-use Rattle.engine.proofs.Spots.{children}
+use Rattle.walks.proofs.Spots.{children}
 
 neither : (a b : Bool) → (a || b) ≡ false → (a ≡ false) × (b ≡ false)
 neither true b e = clash (cc)

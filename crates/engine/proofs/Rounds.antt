@@ -9,7 +9,7 @@ use Rattle.rules.specs.Tree.{Tree}
 use Rattle.rules.specs.Step.{internalEvent}
 use Rattle.theory.specs.Round.{Heard, heard, round, onward, pushed, rounds, rounds-none, rounds-end, rounds-pop, rounds-push}
 use Rattle.memory.specs.Arrays.{Arrays, tick}
-use Rattle.engine.specs.Walks.{arrayOps}
+use Rattle.walks.specs.Walks.{arrayOps}
 
 module _ (t : Tree) (f e v c h : ℕ) (l : List ℕ) (m : Arrays) where
   pub none-left : f ≡ 0 → round false c h l m ≡ rounds arrayOps t f e v c h l m

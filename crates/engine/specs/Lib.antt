@@ -1,4 +1,3 @@
--- The mirrors of the walks over the arrays of the code, and what the contracts say with them.
-pub mod Walks
+-- What the contracts of resume, blocked and the round are said with.
+pub mod Running
 pub mod Resting
-pub mod Listening

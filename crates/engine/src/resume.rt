@@ -6,18 +6,19 @@ ghost use Rattle.theory.specs.State.{walk, sweep, exec, resume, resumeAwait, re
 ghost use Rattle.table.specs.Kinds.{childrenOf};
 ghost use Rattle.table.specs.Places.{treeOf};
 ghost use Rattle.memory.specs.Arrays.{arrays};
-ghost use Rattle.engine.specs.Walks.{Spot, arrayOps, howOf, parKind, parOf, leftBroke, Rests, Emits, RightAlone};
-use crate::How;
-use crate::clear::clear;
-use crate::exec::after_body;
-use crate::exec::after_right;
-use crate::exec::exec;
-use crate::settle::settle;
+ghost use Rattle.walks.specs.Walks.{Spot, arrayOps, howOf, parKind, parOf};
+ghost use Rattle.engine.specs.Running.{leftBroke, Rests, Emits, RightAlone};
 use memory::tick;
 use rules::Limits;
 use table::children_at;
 use table::kind_at;
 use table::second_at;
+use walks::How;
+use walks::clear::clear;
+use walks::exec::after_body;
+use walks::exec::after_right;
+use walks::exec::exec;
+use walks::settle::settle;
 
 fn resume_await(i: usize, st: &mut [u32; Limits::RECORDS]) -> How
     requires { ⌜ i < 256 ⌝ }

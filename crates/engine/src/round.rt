@@ -4,17 +4,18 @@ ghost use Prim.Native.Nat.{_+_, _≤_, max};
 ghost use Rattle.theory.specs.Round.{eventOf, heard, onward, pushed, rounds, react, begin};
 ghost use Rattle.table.specs.Places.{treeOf};
 ghost use Rattle.memory.specs.Arrays.{arrays};
-ghost use Rattle.engine.specs.Listening.{Listens};
-ghost use Rattle.engine.specs.Walks.{Spot, arrayOps, howOf, eventFrom, mostRounds, roundOf};
-use crate::How;
+ghost use Rattle.walks.specs.Listening.{Listens};
+ghost use Rattle.walks.specs.Walks.{Spot, arrayOps, howOf, eventFrom};
+ghost use Rattle.engine.specs.Running.{mostRounds, roundOf};
 use crate::Rounded;
-use crate::exec::exec;
+use crate::rest::all_wait;
+use crate::rest::blocked;
 use crate::resume::resume;
-use crate::wake::all_wait;
-use crate::wake::blocked;
-use crate::wake::wake;
 use memory::tick;
 use rules::Limits;
+use walks::How;
+use walks::exec::exec;
+use walks::wake::wake;
 
 // The event that is pending, 0 for none.
 fn event_of(how: How) -> usize

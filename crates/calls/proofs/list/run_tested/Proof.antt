@@ -7,7 +7,7 @@ use lib.ListN.{length, replicate}
 use borrow.Author.Needs.{needs}
 use Rattle.rules.specs.Limits.{Announced}
 use Rattle.calls.specs.Answers.{lent}
-use Rattle.engine.proofs.Listening.{all-listen}
+use Rattle.walks.proofs.Listening.{all-listen}
 use Rattle.calls.proofs.Passed.{passed-spot, passed-steps}
 use Rattle.calls.proofs.Answering.{held-bytes, held-vars, marks-sized}
 use Rattle.calls.proofs.Reacting.{ready-few}

@@ -5,7 +5,7 @@ use native.Mathlib.Omega.{arith}
 use lib.ListN.{replicate}
 use mir.Syntax.{w32}
 use mir.Facts.{toZ-ofZ}
-use Rattle.engine.proofs.Listening.{all-listen}
+use Rattle.walks.proofs.Listening.{all-listen}
 use Rattle.calls.proofs.Passed.{passed-spot, passed-steps}
 use Rattle.calls.proofs.Answering.{held-bytes, held-vars, marks-sized}
 use Rattle.calls.proofs.Reacting.{react-answers, react-ready, reacts, ready-few}

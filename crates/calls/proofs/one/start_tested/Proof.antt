@@ -3,7 +3,7 @@
 use mathlib.Core.Path.{refl}
 use native.Mathlib.Omega.{arith}
 use lib.ListN.{replicate, getD-replicate}
-use Rattle.engine.proofs.Listening.{all-listen}
+use Rattle.walks.proofs.Listening.{all-listen}
 use Rattle.calls.proofs.Passed.{passed-few, passed-spot, passed-steps}
 use Rattle.calls.proofs.Answering.{held-bytes, held-vars}
 use Rattle.calls.proofs.Reacting.{start-answers, start-few, start-sized, start-table, start-vars, started}

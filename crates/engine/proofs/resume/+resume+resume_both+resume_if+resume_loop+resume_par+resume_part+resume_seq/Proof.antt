@@ -7,8 +7,8 @@ use borrow.Author.Needs.{needs}
 use borrow.Author.Tests.{eq-eqb, ne-eqb}
 use Rattle.rules.specs.Tree.{input, internal}
 use Rattle.rules.specs.Table.{spanAt}
-use Rattle.engine.proofs.Spots.{spot-down, spot-next, down, next, down-above, next-above, children, par-children}
-use Rattle.engine.proofs.Fresh.{walk-memory, exec-memory, then-right, two-ticks}
+use Rattle.walks.proofs.Spots.{spot-down, spot-next, down, next, down-above, next-above, children, par-children}
+use Rattle.walks.proofs.Fresh.{walk-memory, exec-memory, then-right, two-ticks}
 use Rattle.engine.proofs.Live.{resume-await, resume-emit, resume-if, resume-seq, resume-loop, resume-every, resume-par, resume-fin, resume-rest, resume-idle, exec-loop-run, right-alone-run}
 use borrow.Fn.Kinds.{In}
 use borrow.Fn.PlainCycle.{Measures, is, falls, and}
@@ -33,10 +33,10 @@ use Rattle.engine.proofs.resume.+resume+resume_both+resume_if+resume_lo
 use Rattle.engine.proofs.resume.resume_seq.Reads as resume-seq
 use Rattle.engine.proofs.resume.resume_seq.Kinds as resume-seq-kinds
 use Rattle.engine.proofs.resume.+resume+resume_both+resume_if+resume_loop+resume_par+resume_part+resume_seq.Lts-resume_seq as resume-seq-lts
-use Rattle.engine.proofs.clear.clear.Reads as clear-reads
-use Rattle.engine.proofs.exec.after_body.Reads as after-body-reads
-use Rattle.engine.proofs.exec.after_right.Reads as after-right-reads
-use Rattle.engine.proofs.exec.exec.Reads as exec-reads
+use Rattle.walks.proofs.clear.clear.Reads as clear-reads
+use Rattle.walks.proofs.exec.after_body.Reads as after-body-reads
+use Rattle.walks.proofs.exec.after_right.Reads as after-right-reads
+use Rattle.walks.proofs.exec.exec.Reads as exec-reads
 use Rattle.engine.proofs.resume.left_broke.Reads as left-broke-reads
 use Rattle.engine.proofs.resume.resume_await.Reads as resume-await-reads
 use Rattle.engine.proofs.resume.resume_emit.Reads as resume-emit-reads

@@ -1,7 +1,7 @@
 -- `left_broke` is what an and or or makes of its right after its left has broken.
 -- Assumes nothing.
 use borrow.Author.Needs.{needs}
-use Rattle.engine.proofs.Fresh.{walk-memory, two-ticks}
+use Rattle.walks.proofs.Fresh.{walk-memory, two-ticks}
 use Rattle.engine.proofs.resume.left_broke.Statement.{statement}
 use Rattle.engine.proofs.resume.left_broke.Tie as tie
 

@@ -2,7 +2,7 @@
 -- Assumes nothing.
 use borrow.Author.Needs.{needs}
 use borrow.Author.Tests.{eq-eqb, ne-eqb}
-use Rattle.engine.proofs.Fresh.{walk-memory}
+use Rattle.walks.proofs.Fresh.{walk-memory}
 use Rattle.engine.proofs.resume.resume_emit.Statement.{statement}
 use Rattle.engine.proofs.resume.resume_emit.Tie as tie
 

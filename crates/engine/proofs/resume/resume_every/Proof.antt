@@ -3,8 +3,8 @@
 use native.Mathlib.Omega.{arith}
 use borrow.Author.Needs.{needs}
 use borrow.Author.Tests.{eq-eqb, ne-eqb}
-use Rattle.engine.proofs.Spots.{spot-down}
-use Rattle.engine.proofs.Fresh.{walk-memory}
+use Rattle.walks.proofs.Spots.{spot-down}
+use Rattle.walks.proofs.Fresh.{walk-memory}
 use Rattle.engine.proofs.resume.resume_every.Statement.{statement}
 use Rattle.engine.proofs.resume.resume_every.Tie as tie
 

@@ -3,8 +3,8 @@
 use mathlib.Core.Path.{_∙_}
 use native.Mathlib.Omega.{arith}
 use borrow.Author.Needs.{needs}
-use Rattle.engine.proofs.Spots.{par-children}
-use Rattle.engine.proofs.Fresh.{walk-memory, then-right, two-ticks}
+use Rattle.walks.proofs.Spots.{par-children}
+use Rattle.walks.proofs.Fresh.{walk-memory, then-right, two-ticks}
 use Rattle.engine.proofs.resume.resume_held.Statement.{statement}
 use Rattle.engine.proofs.resume.resume_held.Tie as tie
 

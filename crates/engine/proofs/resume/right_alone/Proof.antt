@@ -1,7 +1,7 @@
 -- `right_alone` counts the step of an and whose left has ended before its right.
 -- Assumes nothing.
 use borrow.Author.Needs.{needs}
-use Rattle.engine.proofs.Fresh.{walk-memory}
+use Rattle.walks.proofs.Fresh.{walk-memory}
 use Rattle.engine.proofs.resume.right_alone.Statement.{statement}
 use Rattle.engine.proofs.resume.right_alone.Tie as tie
 

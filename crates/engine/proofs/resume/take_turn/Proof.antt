@@ -4,8 +4,8 @@ use mathlib.Core.Path.{_∙_}
 use native.Mathlib.Omega.{arith}
 use borrow.Author.Needs.{needs}
 use borrow.Author.Tests.{eq-eqb, ne-eqb}
-use Rattle.engine.proofs.Spots.{spot-down, spot-next}
-use Rattle.engine.proofs.Fresh.{exec-memory, two-ticks}
+use Rattle.walks.proofs.Spots.{spot-down, spot-next}
+use Rattle.walks.proofs.Fresh.{exec-memory, two-ticks}
 use Rattle.engine.proofs.resume.take_turn.Statement.{statement}
 use Rattle.engine.proofs.resume.take_turn.Tie as tie
 

@@ -8,7 +8,7 @@ use borrow.Author.Needs.{needs}
 use Rattle.theory.specs.Round.{rounds}
 use Rattle.table.specs.Places.{treeOf}
 use Rattle.memory.specs.Arrays.{arrays}
-use Rattle.engine.specs.Walks.{arrayOps}
+use Rattle.walks.specs.Walks.{arrayOps}
 use Rattle.engine.proofs.Rounds.{none-left, end-step, pop-step, push-step}
 use Rattle.engine.proofs.round.rounds.Statement.{statement}
 use Rattle.engine.proofs.round.rounds.Tie as tie
