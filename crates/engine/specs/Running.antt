@@ -1,14 +1,23 @@
 -- What the contracts of resume and of the round are said with.
 use mathlib.Core.Path.{_≡_}
+use mathlib.Core.Bool.{Bool, true, false}
 use mathlib.Core.List.{List}
 use Prim.Native.Nat.{ℕ}
 use lib.IntN.{ℤ}
-use Rattle.theory.specs.State.{broke, Walk, walk, Swept, tickIf, rightAlone, resumeEmit}
+use Rattle.theory.specs.State as Theory
+use Rattle.theory.specs.State.{idle, ended, broke, waiting, ringing, Walk, walk, Swept, tickIf, rightAlone, resumeEmit}
 use Rattle.theory.specs.Round.{Round, round}
 use Rattle.memory.specs.Arrays.{Arrays, arrays}
 use Rattle.walks.specs.declared.How.{How}
 use Rattle.walks.specs.Walks.{arrayOps, howOf}
 use Rattle.engine.specs.declared.Rounded.{Rounded}
+
+abbrev pub isIdle : Theory.How → Bool
+isIdle idle = true
+isIdle ended = false
+isIdle broke = false
+isIdle waiting = false
+isIdle (ringing e) = false
 
 -- an and or or whose left has broken, and whose right is cleared
 abbrev pub leftBroke : Swept Arrays → Walk Arrays

@@ -1,7 +1,11 @@
 // A running program: a tree that has begun runs on, and the round of pushes and pops.
+mod climb;
+mod held;
+mod part;
 mod rest;
 mod resume;
 mod round;
+mod waiting;
 
 pub use round::begin;
 pub use round::react;

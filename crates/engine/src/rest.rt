@@ -1,11 +1,12 @@
 // A level is done where nothing is left to run.
 ghost use mathlib.Core.Path.{_≡_};
 ghost use mathlib.Core.Bool.{not, _&&_};
-ghost use Prim.Native.Nat.{_≤_};
+ghost use Prim.Native.Nat.{_<_, _≤_};
 ghost use lib.Dec.{leb};
 ghost use Rattle.theory.specs.State.{stillAt, still};
 ghost use Rattle.table.specs.Places.{treeOf};
 ghost use Rattle.walks.specs.Walks.{Spot};
+ghost use Rattle.engine.specs.Parts.{Rest};
 ghost use Rattle.engine.specs.Resting.{stirring};
 use rules::Limits;
 use table::children_at;
@@ -75,4 +76,34 @@ pub fn all_wait(records: usize, st: &[u32; Limits::RECORDS]) -> bool
         i += 1;
     }
     wait
+}
+
+// The first place that runs at this level, or the number of records.
+pub fn first_runs(records: usize, n: u32, st: &[u32; Limits::RECORDS]) -> usize
+    requires { ⌜ records ≤ 256 ⌝ }
+    ensures { λ r. ⌜ (r ≤ records) × Rest n (now (st .entry)) 0 r ⌝ }
+{
+    let mut i: usize = 0;
+    while i < records {
+        if !at_rest(st[i], n) {
+            return i;
+        }
+        i += 1;
+    }
+    records
+}
+
+// The place behind the last one that runs, from `from` on.
+pub fn behind_last(from: usize, records: usize, n: u32, st: &[u32; Limits::RECORDS]) -> usize
+    requires { ⌜ records ≤ 256 ⌝ }
+    ensures { λ r. ⌜ Rest n (now (st .entry)) r records ⌝ }
+{
+    let mut i = records;
+    while from < i {
+        if !at_rest(st[i - 1], n) {
+            return i;
+        }
+        i -= 1;
+    }
+    i
 }

@@ -1,88 +1,29 @@
 // A tree that has begun runs on; one that is idle answers so, and nothing changes.
 ghost use mathlib.Core.Path.{_≡_};
-ghost use Prim.Native.Nat.{_+_, _<_, _≤_};
+ghost use Prim.Native.Nat.{_+_};
 ghost use Rattle.rules.specs.Table.{kindAt, secondAt};
-ghost use Rattle.theory.specs.State.{walk, sweep, exec, resume, resumeAwait, resumeFin, resumeEvery, takeTurn, resumeBoth, resumeHeld};
-ghost use Rattle.table.specs.Kinds.{childrenOf};
+ghost use Rattle.theory.specs.State.{walk, sweep, exec, resume, resumeIf, resumeSeq, resumeLoop, resumeBoth};
 ghost use Rattle.table.specs.Places.{treeOf};
 ghost use Rattle.memory.specs.Arrays.{arrays};
 ghost use Rattle.walks.specs.Walks.{Spot, arrayOps, howOf, parKind, parOf};
-ghost use Rattle.engine.specs.Running.{leftBroke, Rests, Emits, RightAlone};
+ghost use Rattle.engine.specs.Running.{leftBroke, RightAlone};
+use crate::held::resume_held;
+use crate::part::all_idle;
+use crate::waiting::resume_await;
+use crate::waiting::resume_emit;
+use crate::waiting::resume_every;
+use crate::waiting::resume_fin;
 use memory::tick;
 use rules::Limits;
 use table::children_at;
 use table::kind_at;
 use table::second_at;
+use table::span_at;
 use walks::How;
 use walks::clear::clear;
 use walks::exec::after_body;
 use walks::exec::after_right;
 use walks::exec::exec;
-use walks::settle::settle;
-
-fn resume_await(i: usize, st: &mut [u32; Limits::RECORDS]) -> How
-    requires { ⌜ i < 256 ⌝ }
-    ensures { λ r. ⌜ Rests (resumeAwait arrayOps i (now (st .entry))) r (now (st .exit)) ⌝ }
-{
-    if st[i] == 0 {
-        return How::Idle;
-    }
-    if st[i] == 1 {
-        return How::Waiting;
-    }
-    st[i] = 0;
-    How::Ended
-}
-
-fn resume_fin(i: usize, st: &mut [u32; Limits::RECORDS]) -> How
-    requires { ⌜ i < 256 ⌝ }
-    ensures { λ r. ⌜ Rests (resumeFin arrayOps i (now (st .entry))) r (now (st .exit)) ⌝ }
-{
-    if st[i] == 0 {
-        return How::Idle;
-    }
-    How::Waiting
-}
-
-fn resume_emit(i: usize, n: u32, st: &mut [u32; Limits::RECORDS], counts: &mut [u64; 2]) -> How
-    requires { ⌜ i < 256 ⌝ }
-    ensures { λ r. ⌜ Emits n i (now (st .entry)) (now (counts .entry)) r (now (st .exit)) (now (counts .exit)) ⌝ }
-{
-    if st[i] == 0 {
-        return How::Idle;
-    }
-    if st[i] == n {
-        st[i] = 0;
-        tick(counts);
-        return How::Ended;
-    }
-    How::Waiting
-}
-
-// A woken every runs its body and waits again.
-fn resume_every(
-    table: &[u8],
-    i: usize,
-    st: &mut [u32; Limits::RECORDS],
-    vars: &mut [i32; Limits::VARIABLES],
-    out: &mut [u8],
-    counts: &mut [u64; 2],
-) -> How
-    requires { ⌜ Spot (now table) i ⌝ }
-    requires { ⌜ 1 ≤ childrenOf (kindAt (now table) i) ⌝ }
-    ensures { λ r. ⌜ walk (howOf r) (now (st .exit)) (arrays (now (vars .exit)) (now (out .exit)) (now (counts .exit))) ≡ resumeEvery arrayOps (treeOf (now (table .entry)) (i + 1)) i (now (st .entry)) (arrays (now (vars .entry)) (now (out .entry)) (now (counts .entry))) ⌝ }
-{
-    if st[i] == 0 {
-        return How::Idle;
-    }
-    if st[i] == 2 {
-        st[i] = 1;
-        settle(table, i + 1, vars, out, counts);
-        tick(counts);
-        return How::Waiting;
-    }
-    How::Waiting
-}
 
 // The right of an and whose left has ended.
 fn right_alone(how: How, counts: &mut [u64; 2]) -> How
@@ -127,70 +68,6 @@ fn left_broke(
         return How::Broke;
     }
     How::Broke
-}
-
-// The right of an and or or that waits for its turn.
-fn take_turn(
-    table: &[u8],
-    i: usize,
-    n: u32,
-    st: &mut [u32; Limits::RECORDS],
-    vars: &mut [i32; Limits::VARIABLES],
-    out: &mut [u8],
-    counts: &mut [u64; 2],
-) -> How
-    requires { ⌜ Spot (now table) i ⌝ }
-    requires { ⌜ 2 ≤ childrenOf (kindAt (now table) i) ⌝ }
-    ensures { λ r. ⌜ walk (howOf r) (now (st .exit)) (arrays (now (vars .exit)) (now (out .exit)) (now (counts .exit))) ≡ takeTurn arrayOps n i (exec arrayOps n (treeOf (now (table .entry)) (secondAt (now (table .entry)) i))) (now (st .entry)) (arrays (now (vars .entry)) (now (out .entry)) (now (counts .entry))) ⌝ }
-{
-    if st[i] == n {
-        st[i] = 0;
-        tick(counts);
-        tick(counts);
-        let j = second_at(table, i);
-        return exec(table, j, n, st, vars, out, counts);
-    }
-    How::Waiting
-}
-
-// After the left of an and or or whose right has not started.
-fn resume_held(
-    table: &[u8],
-    i: usize,
-    and: bool,
-    how: How,
-    n: u32,
-    st: &mut [u32; Limits::RECORDS],
-    vars: &mut [i32; Limits::VARIABLES],
-    out: &mut [u8],
-    counts: &mut [u64; 2],
-) -> How
-    requires { ⌜ Spot (now table) i ⌝ }
-    requires { ⌜ kindAt (now table) i ≡ parKind and ⌝ }
-    ensures { λ r. ⌜ walk (howOf r) (now (st .exit)) (arrays (now (vars .exit)) (now (out .exit)) (now (counts .exit))) ≡ resumeHeld arrayOps n i (parOf and) (treeOf (now (table .entry)) (i + 1)) (howOf how) (walk (howOf how) (now (st .entry)) (arrays (now (vars .entry)) (now (out .entry)) (now (counts .entry)))) (exec arrayOps n (treeOf (now (table .entry)) (secondAt (now (table .entry)) i))) ⌝ }
-{
-    match how {
-        How::Idle => take_turn(table, i, n, st, vars, out, counts),
-        How::Ended => {
-            tick(counts);
-            if and {
-                return take_turn(table, i, n, st, vars, out, counts);
-            }
-            st[i] = 0;
-            How::Ended
-        }
-        How::Broke => {
-            tick(counts);
-            tick(counts);
-            st[i] = 0;
-            How::Broke
-        }
-        How::Waiting => {
-            let right = take_turn(table, i, n, st, vars, out, counts);
-            after_right(table, i, and, right, st, vars, out, counts)
-        }
-        How::Ringing(event) => How::Ringing(event),
-    }
 }
 
 pub fn resume(
@@ -257,10 +134,28 @@ fn resume_if(
     ensures { λ r. ⌜ walk (howOf r) (now (st .exit)) (arrays (now (vars .exit)) (now (out .exit)) (now (counts .exit))) ≡ resume arrayOps n (treeOf (now (table .entry)) i) (now (st .entry)) (arrays (now (vars .entry)) (now (out .entry)) (now (counts .entry))) ⌝ }
 {
     let how = resume_part(table, i + 1, n, st, vars, out, counts);
+    if_goes_on(table, i, how, n, st, vars, out, counts)
+}
+
+// After the left of an if.
+pub fn if_goes_on(
+    table: &[u8],
+    i: usize,
+    how: How,
+    n: u32,
+    st: &mut [u32; Limits::RECORDS],
+    vars: &mut [i32; Limits::VARIABLES],
+    out: &mut [u8],
+    counts: &mut [u64; 2],
+) -> How
+    requires { ⌜ Spot (now table) i ⌝ }
+    requires { ⌜ kindAt (now table) i ≡ 12 ⌝ }
+    ensures { λ r. ⌜ walk (howOf r) (now (st .exit)) (arrays (now (vars .exit)) (now (out .exit)) (now (counts .exit))) ≡ resumeIf arrayOps (howOf how) (walk (howOf how) (now (st .entry)) (arrays (now (vars .entry)) (now (out .entry)) (now (counts .entry)))) (resume arrayOps n (treeOf (now (table .entry)) (secondAt (now (table .entry)) i))) ⌝ }
+{
     match how {
         How::Idle => {
             let j = second_at(table, i);
-            resume_part(table, j, n, st, vars, out, counts)
+            resume(table, j, n, st, vars, out, counts)
         }
         How::Ended => How::Ended,
         How::Broke => How::Broke,
@@ -283,10 +178,28 @@ fn resume_seq(
     ensures { λ r. ⌜ walk (howOf r) (now (st .exit)) (arrays (now (vars .exit)) (now (out .exit)) (now (counts .exit))) ≡ resume arrayOps n (treeOf (now (table .entry)) i) (now (st .entry)) (arrays (now (vars .entry)) (now (out .entry)) (now (counts .entry))) ⌝ }
 {
     let how = resume_part(table, i + 1, n, st, vars, out, counts);
+    seq_goes_on(table, i, how, n, st, vars, out, counts)
+}
+
+// After the left of a sequence.
+pub fn seq_goes_on(
+    table: &[u8],
+    i: usize,
+    how: How,
+    n: u32,
+    st: &mut [u32; Limits::RECORDS],
+    vars: &mut [i32; Limits::VARIABLES],
+    out: &mut [u8],
+    counts: &mut [u64; 2],
+) -> How
+    requires { ⌜ Spot (now table) i ⌝ }
+    requires { ⌜ kindAt (now table) i ≡ 13 ⌝ }
+    ensures { λ r. ⌜ walk (howOf r) (now (st .exit)) (arrays (now (vars .exit)) (now (out .exit)) (now (counts .exit))) ≡ resumeSeq arrayOps (howOf how) (walk (howOf how) (now (st .entry)) (arrays (now (vars .entry)) (now (out .entry)) (now (counts .entry)))) (resume arrayOps n (treeOf (now (table .entry)) (secondAt (now (table .entry)) i))) (exec arrayOps n (treeOf (now (table .entry)) (secondAt (now (table .entry)) i))) ⌝ }
+{
     match how {
         How::Idle => {
             let j = second_at(table, i);
-            resume_part(table, j, n, st, vars, out, counts)
+            resume(table, j, n, st, vars, out, counts)
         }
         How::Ended => {
             tick(counts);
@@ -302,7 +215,6 @@ fn resume_seq(
     }
 }
 
-// A body that has ended starts anew.
 fn resume_loop(
     table: &[u8],
     i: usize,
@@ -317,6 +229,24 @@ fn resume_loop(
     ensures { λ r. ⌜ walk (howOf r) (now (st .exit)) (arrays (now (vars .exit)) (now (out .exit)) (now (counts .exit))) ≡ resume arrayOps n (treeOf (now (table .entry)) i) (now (st .entry)) (arrays (now (vars .entry)) (now (out .entry)) (now (counts .entry))) ⌝ }
 {
     let how = resume(table, i + 1, n, st, vars, out, counts);
+    loop_goes_on(table, i, how, n, st, vars, out, counts)
+}
+
+// After the body of a loop; one that has ended starts anew.
+pub fn loop_goes_on(
+    table: &[u8],
+    i: usize,
+    how: How,
+    n: u32,
+    st: &mut [u32; Limits::RECORDS],
+    vars: &mut [i32; Limits::VARIABLES],
+    out: &mut [u8],
+    counts: &mut [u64; 2],
+) -> How
+    requires { ⌜ Spot (now table) i ⌝ }
+    requires { ⌜ kindAt (now table) i ≡ 14 ⌝ }
+    ensures { λ r. ⌜ walk (howOf r) (now (st .exit)) (arrays (now (vars .exit)) (now (out .exit)) (now (counts .exit))) ≡ resumeLoop arrayOps (howOf how) (walk (howOf how) (now (st .entry)) (arrays (now (vars .entry)) (now (out .entry)) (now (counts .entry)))) (exec arrayOps n (treeOf (now (table .entry)) (i + 1))) ⌝ }
+{
     match how {
         How::Idle => How::Idle,
         How::Ended => {
@@ -357,7 +287,7 @@ fn resume_par(
 }
 
 // After the left of an and or or whose right has started.
-fn resume_both(
+pub fn resume_both(
     table: &[u8],
     i: usize,
     and: bool,
@@ -377,6 +307,9 @@ fn resume_both(
         How::Idle => resume(table, j, n, st, vars, out, counts),
         How::Ended => {
             if and {
+                if all_idle(j, j + span_at(table, j), st) {
+                    return How::Ended;
+                }
                 let right = resume(table, j, n, st, vars, out, counts);
                 return right_alone(right, counts);
             }

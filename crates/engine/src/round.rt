@@ -1,20 +1,27 @@
 // The round: pushes and pops until level 0, the whole program resumed after each.
 ghost use mathlib.Core.Path.{_≡_};
 ghost use Prim.Native.Nat.{_+_, _≤_, max};
-ghost use Rattle.theory.specs.Round.{eventOf, heard, onward, pushed, rounds, react, begin};
+ghost use Rattle.theory.specs.Round.{turnOf, eventOf, heard, onward, pushed, rounds, react, begin};
 ghost use Rattle.table.specs.Places.{treeOf};
 ghost use Rattle.memory.specs.Arrays.{arrays};
 ghost use Rattle.walks.specs.Listening.{Listens};
 ghost use Rattle.walks.specs.Walks.{Spot, arrayOps, howOf, eventFrom};
+ghost use Rattle.engine.specs.Parts.{Runs};
 ghost use Rattle.engine.specs.Running.{mostRounds, roundOf};
 use crate::Rounded;
+use crate::climb::climb;
+use crate::part::down;
 use crate::rest::all_wait;
+use crate::rest::behind_last;
 use crate::rest::blocked;
+use crate::rest::first_runs;
 use crate::resume::resume;
 use memory::tick;
 use rules::Limits;
 use walks::How;
 use walks::exec::exec;
+use walks::heard_before;
+use walks::heard_from;
 use walks::wake::wake;
 
 // The event that is pending, 0 for none.
@@ -47,6 +54,36 @@ fn rounded(grounded: bool, emitted: u64, highest: u32) -> Rounded
     }
 }
 
+// The part that runs, and then what stands above it. All that runs stands from one place on and before another.
+fn run_part(
+    table: &[u8],
+    level: u32,
+    from: usize,
+    to: usize,
+    st: &mut [u32; Limits::RECORDS],
+    vars: &mut [i32; Limits::VARIABLES],
+    out: &mut [u8],
+    counts: &mut [u64; 2],
+) -> usize
+    requires { ⌜ Spot (now table) 0 ⌝ }
+    requires { ⌜ (level ≤ mostRounds + 1) × Runs (now table) (turnOf level) (now st) from to ⌝ }
+    ensures { λ r. ⌜ heard r (now (st .exit)) (arrays (now (vars .exit)) (now (out .exit)) (now (counts .exit))) ≡ onward arrayOps (treeOf (now (table .entry)) 0) level (now (st .entry)) (arrays (now (vars .entry)) (now (out .entry)) (now (counts .entry))) ⌝ }
+{
+    if to <= from {
+        return 0;
+    }
+    let n = level + 3;
+    let mut path: [u16; Limits::RECORDS] = [0; Limits::RECORDS];
+    let steps = down(table, from, to, st, &mut path);
+    let k = path[steps] as usize;
+    if blocked(table, k, n, st) {
+        return 0;
+    }
+    let how = resume(table, k, n, st, vars, out, counts);
+    let end = climb(table, steps, &path, how, n, st, vars, out, counts);
+    event_of(end)
+}
+
 // The whole program runs on at a level; where it is blocked, nothing is left to do.
 fn onward(
     table: &[u8],
@@ -60,18 +97,13 @@ fn onward(
     requires { ⌜ level ≤ mostRounds + 1 ⌝ }
     ensures { λ r. ⌜ heard r (now (st .exit)) (arrays (now (vars .exit)) (now (out .exit)) (now (counts .exit))) ≡ onward arrayOps (treeOf (now (table .entry)) 0) level (now (st .entry)) (arrays (now (vars .entry)) (now (out .entry)) (now (counts .entry))) ⌝ }
 {
-    let n = level + 3;
-    if all_wait(table.len() / Limits::RECORD_BYTES, st) {
-        return 0;
-    }
-    if blocked(table, 0, n, st) {
-        return 0;
-    }
-    let how = resume(table, 0, n, st, vars, out, counts);
-    event_of(how)
+    let records = table.len() / Limits::RECORD_BYTES;
+    let from = first_runs(records, level + 3, st);
+    let to = behind_last(from, records, level + 3, st);
+    run_part(table, level, from, to, st, vars, out, counts)
 }
 
-// The same at a level that a push came to.
+// The same at a level that a push came to. Where all waited before, only those that it woke run.
 fn pushed(
     table: &[u8],
     input: bool,
@@ -87,7 +119,13 @@ fn pushed(
     requires { ⌜ (level ≤ mostRounds + 1) × Listens (now table) (now awaited) ⌝ }
     ensures { λ r. ⌜ heard r (now (st .exit)) (arrays (now (vars .exit)) (now (out .exit)) (now (counts .exit))) ≡ pushed arrayOps (treeOf (now (table .entry)) 0) (eventFrom input event) level (now (st .entry)) (arrays (now (vars .entry)) (now (out .entry)) (now (counts .entry))) ⌝ }
 {
-    wake(table, input, event, awaited, st);
+    let from = heard_from(input, event, awaited);
+    let to = heard_before(input, event, awaited);
+    let calm = all_wait(table.len() / Limits::RECORD_BYTES, st);
+    wake(table, input, event, from, to, st);
+    if calm {
+        return run_part(table, level, from, to, st, vars, out, counts);
+    }
     onward(table, level, st, vars, out, counts)
 }
 

@@ -2,5 +2,6 @@
 pub mod Counting
 pub mod Places
 pub mod Trees
+pub mod Laid
 pub mod Passed
 pub mod Finding

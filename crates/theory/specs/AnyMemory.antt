@@ -223,7 +223,7 @@ module _ {M N : Type 0} (o : Ops M) (q : Ops N) (R : M → N → Type 0) (like :
   unfolding resume Ranged
   resume-same t (nop i) g l m n r = same-walk idle r
   resume-same t (act i a v k) g l m n r = same-walk idle r
-  resume-same t (await i s e) g l m n r = pick (SameWalk R) (eqb (getD l i 0) 0) (same-walk idle r) (pick (SameWalk R) (eqb (getD l i 0) 1) (same-walk waiting r) (same-walk ended r))
+  resume-same t (await i s e) g l m n r = pick (SameWalk R) (eqb (getD l i 0) 0) (same-walk idle r) (pick (SameWalk R) (eqb (getD l i 0) 2) (same-walk ended r) (same-walk waiting r))
   resume-same t (emit i e y) g l m n r = pick (SameWalk R) (eqb (getD l i 0) 0) (same-walk idle r) (pick (SameWalk R) (eqb (getD l i 0) t) (same-walk ended (tick r)) (same-walk waiting r))
   resume-same t (break i) g l m n r = same-walk idle r
   resume-same t (ifvar i v a b) g l m n r = if-same (resume-same t a (g .1) l m n r) (resume-same t b (g .2))

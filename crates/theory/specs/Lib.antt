@@ -50,6 +50,9 @@ pub mod Sweep
 pub mod View
 pub mod Exec
 pub mod Resume
+pub mod Kept
+pub mod Still
+pub mod Part
 pub mod Wake
 pub mod Rests
 pub mod Turns

@@ -176,7 +176,7 @@ module _ {M : Type 0} (o : Ops M) where
   -- ---- a tree that has begun; one that has not answers idle, and nothing changes
 
   abbrev pub resumeAwait : ℕ → List ℕ → M → Walk M
-  resumeAwait i l m = if eqb (getD l i 0) 0 then walk idle l m else (if eqb (getD l i 0) 1 then walk waiting l m else walk ended (set l i 0) m)
+  resumeAwait i l m = if eqb (getD l i 0) 0 then walk idle l m else (if eqb (getD l i 0) 2 then walk ended (set l i 0) m else walk waiting l m)
 
   abbrev pub resumeFin : ℕ → List ℕ → M → Walk M
   resumeFin i l m = if eqb (getD l i 0) 0 then walk idle l m else walk waiting l m

@@ -19,6 +19,7 @@ use Rattle.theory.specs.Big.{Out, ends, result, seqF, againF, rightF, pa
 use Rattle.theory.specs.Big as Big
 use Rattle.theory.specs.Sound.{Sound}
 use Rattle.theory.specs.State.{awake, wakeAt, still, stillAt}
+use Rattle.theory.specs.Still.{all-still, three, two}
 use Rattle.theory.specs.Frame.{Blank, Within, Room, Leaf, Stem, Fork, Laid, within-refl, within-trans, blank-same, room-within, part-blank, part-within, part-room, apart-same, set-here, set-within, set-apart, leaf-own, stem-own, stem-kept, body-part, body-off, fork-own, left-part, right-part, left-right, right-left, left-kept, right-kept}
 use Rattle.theory.specs.Shows.{Shows, await-waits, await-woken, emit-turn, if-left, if-right, seq-left, seq-right, loop-in, every-waits, every-woken, fin-waits, par-both, and-left, and-right, par-held, and-turn, shows-same}
 
@@ -121,21 +122,7 @@ module _ (t v : ℕ) (tv : t ≡ v + 3) where
       go false h = rw (ne-eqb y 2 (λ n. omega arith), ne-eqb y t (λ n. eqb-false k v h (omega arith)))
 
   pub idle-still : (a : Tree) (l : List ℕ) → Laid a → Blank l a → still t a l ≡ true
-  unfolding still Laid
-  idle-still (nop i) l z b = low (getD l i 0) (omega (arith, b .zero-at i (leaf-own z)))
-  idle-still (act i a n k) l z b = low (getD l i 0) (omega (arith, b .zero-at i (leaf-own z)))
-  idle-still (await i s e) l z b = low (getD l i 0) (omega (arith, b .zero-at i (leaf-own z)))
-  idle-still (emit i e y) l z b = low (getD l i 0) (omega (arith, b .zero-at i (leaf-own z)))
-  idle-still (break i) l z b = low (getD l i 0) (omega (arith, b .zero-at i (leaf-own z)))
-  idle-still (ifvar i n p q) l z b = rw (low (getD l i 0) (omega (arith, b .zero-at i (fork-own (z .0)))), idle-still p l (z .1) (part-blank (left-part (z .0)) b), idle-still q l (z .2) (part-blank (right-part (z .0)) b))
-  idle-still (seq i p q) l z b = rw (low (getD l i 0) (omega (arith, b .zero-at i (fork-own (z .0)))), idle-still p l (z .1) (part-blank (left-part (z .0)) b), idle-still q l (z .2) (part-blank (right-part (z .0)) b))
-  idle-still (loop i p) l z b = rw (low (getD l i 0) (omega (arith, b .zero-at i (stem-own (z .0)))), idle-still p l (z .1) (part-blank (body-part (z .0)) b))
-  idle-still (every i s e p) l z b = low (getD l i 0) (omega (arith, b .zero-at i (stem-own (z .0))))
-  idle-still (par i c p q) l z b = rw (low (getD l i 0) (omega (arith, b .zero-at i (fork-own (z .0)))), idle-still p l (z .1) (part-blank (left-part (z .0)) b), idle-still q l (z .2) (part-blank (right-part (z .0)) b))
-  idle-still (fin i p) l z b = low (getD l i 0) (omega (arith, b .zero-at i (stem-own (z .0))))
-  idle-still (canrun i k) l z b = absurd z
-  idle-still (atLoop i p q) l z b = absurd z
-  idle-still (atPar i c p q) l z b = absurd z
+  idle-still a l z b = all-still t a l z (λ j h. low (getD l j 0) (omega (arith, b .zero-at j h)))
 
   -- a @canrun not above the level blocks below it
   below : (k : ℕ) → k ≤ v → not (eqb k v) ≡ ltb k v
@@ -180,15 +167,6 @@ module _ (t v : ℕ) (tv : t ≡ v + 3) where
 
   -- ---- a tree that is still has nothing to run
 
-  three : (a b c : Bool) → (a && b && c) ≡ true → (a ≡ true) × (b ≡ true) × (c ≡ true)
-  three true true c e = (refl, refl, e)
-  three true false c e = clash (cc)
-  three false b c e = clash (cc)
-
-  two : (a b : Bool) → (a && b) ≡ true → b ≡ true
-  two true b e = e
-  two false b e = clash (cc)
-
   no-turn : (y k : ℕ) → y ≡ k + 3 → stillAt t y ≡ true → eqb k v ≡ false
   no-turn y k e h = go (eqb k v) (sym (turned y k e) ∙ h)
     where
@@ -213,7 +191,7 @@ module _ (t v : ℕ) (tv : t ≡ v + 3) where
   still-rests (ifvar i n p q) l (if-right h a b) e x = still-rests q l b (three (stillAt t (getD l i 0)) (still t p l) (still t q l) e .2) x
   still-rests (seq i p q) l (seq-left h a b) e x = ap (λ (o : Out). seqF i (o .fate) o q (Big.resume v q)) (still-rests p l a (three (stillAt t (getD l i 0)) (still t p l) (still t q l) e .1) x)
   still-rests (seq i p q) l (seq-right h a b) e x = still-rests q l b (three (stillAt t (getD l i 0)) (still t p l) (still t q l) e .2) x
-  still-rests (loop i p) l (loop-in h a) e x = ap (λ (o : Out). againF i (o .fate) o p (Big.resume v p)) (still-rests p l a (two (stillAt t (getD l i 0)) (still t p l) e) x)
+  still-rests (loop i p) l (loop-in h a) e x = ap (λ (o : Out). againF i (o .fate) o p (Big.resume v p)) (still-rests p l a (two (stillAt t (getD l i 0)) (still t p l) e .1) x)
   still-rests (every i s n p) l (every-waits h b) e x = refl
   still-rests (every i s n p) l (every-woken h b) e x = no-wake (getD l i 0) h e
   still-rests (par i c p q) l (par-both {u = u} {v = w} h a b) e x =

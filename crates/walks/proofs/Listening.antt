@@ -1,6 +1,6 @@
 -- Every listener of every event is counted; and where nobody listens, awake changes nothing.
 -- Assumes nothing.
-use mathlib.Core.Path.{_≡_, refl, ap, _∙_}
+use mathlib.Core.Path.{_≡_, refl, sym, ap, _∙_}
 use mathlib.Core.Bool.{Bool, true, false, _&&_}
 use mathlib.Core.List.{List}
 use Prim.Native.Nat.{ℕ, zero, suc, _+_, _-_, _*_, _≤_, _<_, max}
@@ -8,7 +8,7 @@ use native.Mathlib.Omega.{arith}
 use lib.Dec.{eqb, ltb}
 use lib.ListN.{length, getD, set, length-set}
 use lib.Seq.{getD-set-same, getD-set-other}
-use borrow.Author.Tests.{eqb-true, eqb-false, lt-ltb, ltb-true, ltb-false}
+use borrow.Author.Tests.{eqb-true, eqb-false, eq-eqb, ne-eqb, lt-ltb, ltb-true, ltb-false}
 use Rattle.rules.specs.Stages.{if_then_else_}
 use Rattle.rules.specs.Limits.{mostRecords}
 use Rattle.rules.specs.Table.{kindAt, nameAt, spanAt, secondAt, recordsOf}
@@ -20,8 +20,8 @@ use Rattle.table.specs.Places.{Place, treeOf}
 use Rattle.table.proofs.Places.{span-pos, down-place, down-falls, next-place, next-falls}
 use Rattle.table.proofs.Trees.{span-inside}
 use Rattle.walks.specs.Walks.{eventFrom, waits, hears}
-use Rattle.walks.specs.Listening.{keyOf, noted, notedIf, hearing, listening, Hear, Listens}
-use Rattle.walks.proofs.Spots.{children}
+use Rattle.walks.specs.Listening.{keyOf, noted, notedIf, hearing, listening, Hear, Listens, PartWith, itself, the-body, the-left, the-right, HeardIn}
+use Rattle.walks.proofs.Spots.{children, loop-alone}
 use Rattle.walks.proofs.Waking.{awake-record}
 
 -- ---- the counts only grow
@@ -128,19 +128,24 @@ module _ (b : List ℕ) (small : recordsOf b ≤ mostRecords) where
   unfolding listening
   listening-next n a = let q : n + 1 ≡ suc n = omega arith in ap (λ (k : ℕ). listening b k a) q
 
+  -- of events over 63: the listeners stand somewhere
   pub all-listen : (a : List ℕ) → length a ≡ 256 → Listens b (listening b (recordsOf b) a)
   unfolding Within
-  all-listen a h = record { counted = λ x e g k u q. listening-has x e g (recordsOf b) a (omega arith) h k u q }
+  all-listen a h = record { counted = λ x e. go x e (ltb e 64) refl }
+    where
+      go : (x : Bool) (e : ℕ) (y : Bool) → ltb e 64 ≡ y → (let c = listening b (recordsOf b) a in Hear b x e (if y then mostRecords - getD c (2 * keyOf x e) 0 else 0) (if y then getD c (2 * keyOf x e + 1) 0 else mostRecords))
+      go x e true g k u q = let w = listening-has x e (ltb-true e 64 g) (recordsOf b) a (omega arith) h k u q in (omega (arith, w .0), w .1)
+      go x e false g k u q = (omega arith, omega arith)
 
 pub key-below : (x : Bool) (e : ℕ) → e < 64 → keyOf x e < 128
 key-below true e h = omega arith
 key-below false e h = omega arith
 
--- of any event: the listeners stand somewhere
-pub anywhere : (b : List ℕ) → recordsOf b ≤ mostRecords → (x : Bool) (e : ℕ) → Hear b x e mostRecords mostRecords
-anywhere b h x e k g q = (omega arith, omega arith)
-
 -- ---- where nobody listens
+
+pub not-so : (y : Bool) → (y ≡ true → ⊥) → y ≡ false
+not-so true h = absurd (h refl)
+not-so false h = refl
 
 module _ (b : List ℕ) (x : Bool) (e : ℕ) where
   Deaf : ℕ → Type 0
@@ -163,16 +168,79 @@ module _ (b : List ℕ) (x : Bool) (e : ℕ) where
       (λ c. deaf-at f (i + 1) (down-place b i p c) l (omega (arith, down-falls b i p c)) (λ k y z. g k (omega arith) (omega (arith, down-falls b i p c))))
       (λ c. deaf-at f (secondAt b i) (next-place b i p c) l (omega (arith, next-falls b i p c)) (λ k y z. g k (omega arith) (omega (arith, next-falls b i p c))))
 
-  not-so : (y : Bool) → (y ≡ true → ⊥) → y ≡ false
-  not-so true h = absurd (h refl)
-  not-so false h = refl
-
-  module _ (back behind : ℕ) (hear : Hear b x e back behind) (i : ℕ) (p : Place b i) (l : List ℕ) where
-    -- the part stands behind all listeners, or before them
-    pub deaf-behind : behind ≤ i → awake (wakes (eventFrom x e)) (treeOf b i) l ≡ l
+  module _ (from to : ℕ) (hear : Hear b x e from to) where
+    pub deaf-behind : (i : ℕ) (p : Place b i) (l : List ℕ) → to ≤ i → awake (wakes (eventFrom x e)) (treeOf b i) l ≡ l
     unfolding Deaf
-    deaf-behind h = deaf-at (spanAt b i) i p l (omega arith) (λ k y z. not-so (hears (kindAt b k) (nameAt b k) x e) (λ q. omega (arith, hear k (omega (arith, span-inside b i p)) q .1)))
+    deaf-behind i p l h = deaf-at (spanAt b i) i p l (omega arith) (λ k y z. not-so (hears (kindAt b k) (nameAt b k) x e) (λ q. omega (arith, hear k (omega (arith, span-inside b i p)) q .1)))
 
-    pub deaf-before : i + spanAt b i + back ≤ mostRecords → awake (wakes (eventFrom x e)) (treeOf b i) l ≡ l
+    pub deaf-before : (i : ℕ) (p : Place b i) (l : List ℕ) → i + spanAt b i ≤ from → awake (wakes (eventFrom x e)) (treeOf b i) l ≡ l
     unfolding Deaf
-    deaf-before h = deaf-at (spanAt b i) i p l (omega arith) (λ k y z. not-so (hears (kindAt b k) (nameAt b k) x e) (λ q. omega (arith, hear k (omega (arith, span-inside b i p)) q .0)))
+    deaf-before i p l h = deaf-at (spanAt b i) i p l (omega arith) (λ k y z. not-so (hears (kindAt b k) (nameAt b k) x e) (λ q. omega (arith, hear k (omega (arith, span-inside b i p)) q .0)))
+
+    pub deaf-all : (i : ℕ) (p : Place b i) (l : List ℕ) → to ≤ from → awake (wakes (eventFrom x e)) (treeOf b i) l ≡ l
+    unfolding Deaf
+    deaf-all i p l h = deaf-at (spanAt b i) i p l (omega arith) (λ k y z. not-so (hears (kindAt b k) (nameAt b k) x e) (λ q. let w = hear k (omega (arith, span-inside b i p)) q in omega (arith, w .0, w .1)))
+
+    -- nobody listens beside the part
+    pub part-hears : (i : ℕ) → Place b i → {k : ℕ} → PartWith b i from to k → (l : List ℕ) → awake (wakes (eventFrom x e)) (treeOf b k) l ≡ awake (wakes (eventFrom x e)) (treeOf b i) l
+    unfolding childrenOf
+    part-hears i p itself l = refl
+    part-hears i p (the-body c) l = sym (awake-record b i p l x e ∙ rw (ne-eqb (childrenOf (kindAt b i)) 2 (λ q. loop-alone (kindAt b i) c q), eq-eqb (kindAt b i) 14 c))
+    part-hears i p (the-left c h) l = sym (awake-record b i p l x e ∙ rw (eq-eqb (childrenOf (kindAt b i)) 2 c) (deaf-behind (secondAt b i) (next-place b i p (omega arith)) (awake (wakes (eventFrom x e)) (treeOf b (i + 1)) l) h))
+    part-hears i p (the-right c h) l = sym (awake-record b i p l x e ∙ rw (eq-eqb (childrenOf (kindAt b i)) 2 c) (ap (awake (wakes (eventFrom x e)) (treeOf b (secondAt b i))) (deaf-before (i + 1) (down-place b i p (omega arith)) l (omega arith))))
+
+-- ---- the part
+
+module _ (b : List ℕ) {from to : ℕ} where
+  pub part-place : (i : ℕ) → Place b i → {k : ℕ} → PartWith b i from to k → Place b k
+  part-place i p itself = p
+  part-place i p (the-body c) = down-place b i p (children 14 c tt)
+  part-place i p (the-left c h) = down-place b i p (omega arith)
+  part-place i p (the-right c h) = next-place b i p (omega arith)
+
+  pub part-below : (i : ℕ) → Place b i → {k : ℕ} → PartWith b i from to k → (k ≡ i → ⊥) → i < k
+  part-below i p itself n = absurd (n refl)
+  part-below i p (the-body c) n = omega arith
+  part-below i p (the-left c h) n = omega arith
+  part-below i p (the-right c h) n = omega (arith, span-pos b (i + 1) (down-place b i p (omega arith)))
+
+  pub part-heard : (i : ℕ) → Place b i → {k : ℕ} → PartWith b i from to k → HeardIn b from to i → HeardIn b from to k
+  part-heard i p w h x e hear l = part-hears b x e from to hear i p w l ∙ h x e hear l
+
+-- ---- a place where nobody listens keeps its state
+
+set-kept : (l : List ℕ) (i k : ℕ) → (k ≡ i → ⊥) → (y : Bool) → getD (wakeAt y i l) k 0 ≡ getD l k 0
+set-kept l i k n true = go (eqb (getD l i 0) 1)
+  where
+    go : (z : Bool) → getD (if z then set l i 2 else l) k 0 ≡ getD l k 0
+    go true = getD-set-other l i k 2 0 n
+    go false = refl
+set-kept l i k n false = refl
+
+module _ (b : List ℕ) (x : Bool) (e k : ℕ) (deaf : hears (kindAt b k) (nameAt b k) x e ≡ false) where
+  kept-one : (i : ℕ) (l : List ℕ) → getD (wakeAt (hears (kindAt b i) (nameAt b i) x e) i l) k 0 ≡ getD l k 0
+  kept-one i l = go (eqb k i) refl
+    where
+      go : (y : Bool) → eqb k i ≡ y → getD (wakeAt (hears (kindAt b i) (nameAt b i) x e) i l) k 0 ≡ getD l k 0
+      go true q = let o : k ≡ i = eqb-true k i q in let d = rw o at deaf in rw d
+      go false q = set-kept l i k (eqb-false k i q) (hears (kindAt b i) (nameAt b i) x e)
+
+  kept-node : (i : ℕ) (p : Place b i) (l : List ℕ) → (1 ≤ childrenOf (kindAt b i) → (l : List ℕ) → getD (awake (wakes (eventFrom x e)) (treeOf b (i + 1)) l) k 0 ≡ getD l k 0) →
+      (2 ≤ childrenOf (kindAt b i) → (l : List ℕ) → getD (awake (wakes (eventFrom x e)) (treeOf b (secondAt b i)) l) k 0 ≡ getD l k 0) → getD (awake (wakes (eventFrom x e)) (treeOf b i) l) k 0 ≡ getD l k 0
+  kept-node i p l down next = ap (λ (a : List ℕ). getD a k 0) (awake-record b i p l x e) ∙ go (eqb (childrenOf (kindAt b i)) 2) refl (eqb (kindAt b i) 14) refl
+    where
+      go : (y : Bool) → eqb (childrenOf (kindAt b i)) 2 ≡ y → (z : Bool) → eqb (kindAt b i) 14 ≡ z →
+          getD (if y then awake (wakes (eventFrom x e)) (treeOf b (secondAt b i)) (awake (wakes (eventFrom x e)) (treeOf b (i + 1)) l) else if z then awake (wakes (eventFrom x e)) (treeOf b (i + 1)) l else wakeAt (hears (kindAt b i) (nameAt b i) x e) i l) k 0 ≡ getD l k 0
+      go true y z w = let c = eqb-true (childrenOf (kindAt b i)) 2 y in next (omega arith) (awake (wakes (eventFrom x e)) (treeOf b (i + 1)) l) ∙ down (omega arith) l
+      go false y true w = down (children 14 (eqb-true (kindAt b i) 14 w) tt) l
+      go false y false w = kept-one i l
+
+  kept-from : (f i : ℕ) (p : Place b i) → spanAt b i ≤ f → (l : List ℕ) → getD (awake (wakes (eventFrom x e)) (treeOf b i) l) k 0 ≡ getD l k 0
+  kept-from zero i p h l = absurd (omega (arith, span-pos b i p))
+  kept-from (suc f) i p h l =
+      kept-node i p l
+      (λ c. kept-from f (i + 1) (down-place b i p c) (omega (arith, down-falls b i p c)))
+      (λ c. kept-from f (secondAt b i) (next-place b i p c) (omega (arith, next-falls b i p c)))
+
+  pub awake-kept : (i : ℕ) (p : Place b i) (l : List ℕ) → getD (awake (wakes (eventFrom x e)) (treeOf b i) l) k 0 ≡ getD l k 0
+  awake-kept i p l = kept-from (spanAt b i) i p (omega arith) l

@@ -54,6 +54,10 @@ either-children (inr e) = children 13 e tt
 pub no-two : (k : ℕ) → childrenOf k ≡ 0 → childrenOf k ≡ 2 → ⊥
 no-two k z e = omega arith
 
+pub loop-alone : (k : ℕ) → k ≡ 14 → childrenOf k ≡ 2 → ⊥
+unfolding childrenOf
+loop-alone k e h = omega (arith, rw e at h)
+
 pub no-loop : (k : ℕ) → childrenOf k ≡ 0 → k ≡ 14 → ⊥
 no-loop k z e = omega (arith, children {m = 1} 14 e tt)
 

@@ -2,9 +2,12 @@
 pub mod clear;
 pub mod exec;
 mod listeners;
+pub mod part;
 pub mod settle;
 pub mod wake;
 
+pub use listeners::heard_before;
+pub use listeners::heard_from;
 pub use listeners::listen;
 
 // How a walk ended: nothing lived there; it has ended, broken, is blocked, or has an event pending.

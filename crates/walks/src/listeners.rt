@@ -1,9 +1,9 @@
 // Where each event is awaited, so that a push looks for its listeners there alone.
 ghost use mathlib.Core.Path.{_≡_};
-ghost use Prim.Native.Nat.{_+_, _<_, _≤_, max};
+ghost use Prim.Native.Nat.{_+_, _-_, _<_, _≤_, max};
 ghost use Rattle.rules.specs.Limits.{mostRecords};
 ghost use Rattle.rules.specs.Table.{recordsOf};
-ghost use Rattle.walks.specs.Listening.{notedIf, hearing, listening};
+ghost use Rattle.walks.specs.Listening.{notedIf, hearing, listening, keyOf, heardFrom, heardBefore};
 use crate::wake::waits;
 use rules::Limits;
 use table::kind_at;
@@ -52,4 +52,52 @@ pub fn listen(table: &[u8], awaited: &mut [u16; Limits::RECORDS])
         hear(table, i, awaited);
         i += 1;
     }
+}
+
+fn key_of(input: bool, event: usize) -> usize
+    requires { ⌜ event < 64 ⌝ }
+    ensures { λ r. ⌜ r ≡ keyOf input event ⌝ }
+{
+    if input {
+        return event;
+    }
+    event + 64
+}
+
+fn wide(bound: u16) -> usize
+    ensures { λ r. ⌜ (r ≡ bound) × (r < 65536) ⌝ }
+{
+    bound as usize
+}
+
+// How far a place is before place 256, as a place.
+fn place_of(back: usize) -> usize
+    ensures { λ r. ⌜ r ≡ mostRecords - back ⌝ }
+{
+    if back < Limits::RECORDS {
+        return Limits::RECORDS - back;
+    }
+    0
+}
+
+// Whoever awaits the event stands from this place on.
+pub fn heard_from(input: bool, event: usize, awaited: &[u16; Limits::RECORDS]) -> usize
+    ensures { λ r. ⌜ r ≡ heardFrom (now (awaited .entry)) input event ⌝ }
+{
+    if event < 64 {
+        let key = key_of(input, event);
+        return place_of(wide(awaited[2 * key]));
+    }
+    0
+}
+
+// And before this one.
+pub fn heard_before(input: bool, event: usize, awaited: &[u16; Limits::RECORDS]) -> usize
+    ensures { λ r. ⌜ r ≡ heardBefore (now (awaited .entry)) input event ⌝ }
+{
+    if event < 64 {
+        let key = key_of(input, event);
+        return wide(awaited[2 * key + 1]);
+    }
+    Limits::RECORDS
 }

@@ -6,13 +6,13 @@ ghost use Rattle.rules.specs.Step.{wakes};
 ghost use Rattle.theory.specs.State.{wakeAt, awake};
 ghost use Rattle.table.specs.Places.{treeOf};
 ghost use Rattle.walks.specs.Walks.{Spot, eventFrom, waits, hears};
-ghost use Rattle.walks.specs.Listening.{Hear, Listens, keyOf};
+ghost use Rattle.walks.specs.Listening.{Hear, HeardIn};
+use crate::part::part_with;
 use rules::Limits;
 use table::children_at;
 use table::kind_at;
 use table::name_at;
 use table::second_at;
-use table::span_at;
 
 // Kinds 8 and 15 wait for input, 9 and 16 for internal events.
 pub(crate) fn waits(kind: usize, input: bool) -> bool
@@ -55,94 +55,68 @@ fn awake_one(table: &[u8], i: usize, input: bool, event: usize, st: &mut [u32; L
     wake_one(hears(kind, name, input, event), i, st);
 }
 
-// What waits for the event at place i and below is woken. All that wait for it stand at most `back` before place 256, and before `behind`.
-fn awake(
-    table: &[u8],
-    i: usize,
-    input: bool,
-    event: usize,
-    back: usize,
-    behind: usize,
-    st: &mut [u32; Limits::RECORDS],
-)
+// What waits for the event at place i and below is woken.
+pub fn awake(table: &[u8], i: usize, input: bool, event: usize, st: &mut [u32; Limits::RECORDS])
     requires { ⌜ Spot (now table) i ⌝ }
-    requires { ⌜ Hear (now table) input event back behind × (back < 65536) ⌝ }
     ensures { λ _. ⌜ now (st .exit) ≡ awake (wakes (eventFrom input event)) (treeOf (now (table .entry)) i) (now (st .entry)) ⌝ }
 {
     if children_at(table, i) == 2 {
-        awake_part(table, i + 1, input, event, back, behind, st);
+        awake_part(table, i + 1, input, event, st);
         let j = second_at(table, i);
-        awake_part(table, j, input, event, back, behind, st);
+        awake_part(table, j, input, event, st);
         return;
     }
     if kind_at(table, i) == 14 {
-        awake_part(table, i + 1, input, event, back, behind, st);
+        awake_part(table, i + 1, input, event, st);
         return;
     }
     awake_one(table, i, input, event, st);
 }
 
-// The same of a part: one behind or before all that wait for the event, and one without children, takes no walk.
-fn awake_part(
-    table: &[u8],
-    i: usize,
-    input: bool,
-    event: usize,
-    back: usize,
-    behind: usize,
-    st: &mut [u32; Limits::RECORDS],
-)
+// The same of a part: one without children takes no walk.
+fn awake_part(table: &[u8], i: usize, input: bool, event: usize, st: &mut [u32; Limits::RECORDS])
     requires { ⌜ Spot (now table) i ⌝ }
-    requires { ⌜ Hear (now table) input event back behind × (back < 65536) ⌝ }
     ensures { λ _. ⌜ now (st .exit) ≡ awake (wakes (eventFrom input event)) (treeOf (now (table .entry)) i) (now (st .entry)) ⌝ }
 {
-    if behind <= i {
-        return;
-    }
-    if i + span_at(table, i) + back <= Limits::RECORDS {
-        return;
-    }
     if children_at(table, i) == 0 {
         awake_one(table, i, input, event, st);
         return;
     }
-    awake(table, i, input, event, back, behind, st);
+    awake(table, i, input, event, st);
 }
 
-fn key_of(input: bool, event: usize) -> usize
-    requires { ⌜ event < 64 ⌝ }
-    ensures { λ r. ⌜ r ≡ keyOf input event ⌝ }
+// The smallest construct that has all places from one on and before another.
+fn holder(table: &[u8], from: usize, to: usize) -> usize
+    requires { ⌜ Spot (now table) 0 ⌝ }
+    ensures { λ r. ⌜ Spot (now (table .entry)) r × HeardIn (now (table .entry)) from to r ⌝ }
 {
-    if input {
-        return event;
+    let mut i: usize = 0;
+    while i < from {
+        let k = part_with(table, i, from, to);
+        if k == i {
+            return i;
+        }
+        i = k;
     }
-    event + 64
+    i
 }
 
-fn wide(bound: u16) -> usize
-    ensures { λ r. ⌜ (r ≡ bound) × (r < 65536) ⌝ }
-{
-    bound as usize
-}
-
-// The whole program, by what is known of where the event is awaited; of events over 63 nothing is.
+// The whole program, where all that wait for the event stand from one place on and before another.
 pub fn wake(
     table: &[u8],
     input: bool,
     event: usize,
-    awaited: &[u16; Limits::RECORDS],
+    from: usize,
+    to: usize,
     st: &mut [u32; Limits::RECORDS],
 )
     requires { ⌜ Spot (now table) 0 ⌝ }
-    requires { ⌜ Listens (now table) (now awaited) ⌝ }
+    requires { ⌜ Hear (now table) input event from to ⌝ }
     ensures { λ _. ⌜ now (st .exit) ≡ awake (wakes (eventFrom input event)) (treeOf (now (table .entry)) 0) (now (st .entry)) ⌝ }
 {
-    if event < 64 {
-        let key = key_of(input, event);
-        let back = wide(awaited[2 * key]);
-        let behind = wide(awaited[2 * key + 1]);
-        awake_part(table, 0, input, event, back, behind, st);
+    if to <= from {
         return;
     }
-    awake(table, 0, input, event, Limits::RECORDS, Limits::RECORDS, st);
+    let k = holder(table, from, to);
+    awake_part(table, k, input, event, st);
 }

@@ -1,32 +1,15 @@
--- `wake` wakes the whole program, between the bounds that are known of the event.
+-- `wake` goes down to what holds all listeners, and wakes them there; where nobody listens nothing changes.
 -- Assumes nothing.
-use native.Mathlib.Omega.{arith}
-use borrow.Author.Needs.{needs}
-use Rattle.walks.proofs.Listening.{key-below, anywhere}
+use mathlib.Core.Path.{sym, _∙_}
+use Rattle.walks.proofs.Listening.{deaf-all}
 use Rattle.walks.proofs.wake.wake.Statement.{statement}
 use Rattle.walks.proofs.wake.wake.Tie as tie
 
 returns : tie.Need-returns
-returns c = c .awake-part .ensures
+returns c = sym (deaf-all _ _ _ _ _ (c .before .before .pre .1) _ (c .before .before .pre .0 .place) _ (c .if1 .taken))
 
 returns-2 : tie.Need-returns-2
-returns-2 c = c .awake .ensures
+returns-2 c = c .awake-part .ensures ∙ c .before .before .holder .ensures .1 _ _ (c .before .before .before .before .before .pre .1) _
 
 pub wake-spec : {M : Type 1} → statement M
-wake-spec =
-    tie.close
-    (tie.spec
-    (λ c κs. c .if1 .taken)
-    (λ c. omega (arith, (key-below (c .before .before .before .args .input) (c .before .before .before .args .event) (c .before .if1 .taken)), c .key-of .ensures))
-    (λ c. omega (arith, (key-below (c .before .before .before .args .input) (c .before .before .before .args .event) (c .before .if1 .taken)), c .key-of .ensures))
-    (λ c. omega (arith, (key-below (c .before .before .before .args .input) (c .before .before .before .args .event) (c .before .if1 .taken)), c .key-of .ensures))
-    (λ c κs. search needs)
-    (λ c. omega (arith, (key-below (c .before .before .before .before .before .args .input) (c .before .before .before .before .before .args .event) (c .before .before .before .if1 .taken)), c .before .before .key-of .ensures))
-    (λ c. omega (arith, (key-below (c .before .before .before .before .before .args .input) (c .before .before .before .before .before .args .event) (c .before .before .before .if1 .taken)), c .before .before .key-of .ensures))
-    (λ c. omega (arith, (key-below (c .before .before .before .before .before .args .input) (c .before .before .before .before .before .args .event) (c .before .before .before .if1 .taken)), c .before .before .key-of .ensures))
-    (λ c. omega (arith, (key-below (c .before .before .before .before .before .args .input) (c .before .before .before .before .before .args .event) (c .before .before .before .if1 .taken)), c .before .before .key-of .ensures))
-    (λ c κs. search needs)
-    (λ c κs. (c .before .before .before .before .before .before .before .before .pre .0, (rw (c .before .before .before .wide .ensures .0, c .before .wide2 .ensures .0, c .before .before .before .before .before .key-of .ensures) (c .before .before .before .before .before .before .before .before .pre .1 .counted (c .before .before .before .before .before .before .before .before .args .input) (c .before .before .before .before .before .before .before .before .args .event) (c .before .before .before .before .before .before .if1 .taken)), c .before .before .before .wide .ensures .1)))
-    returns
-    (λ c κs. (c .before .before .before .pre .0, (anywhere (c .before .before .before .args .table .now) (c .before .before .before .pre .0 .small) (c .before .before .before .args .input) (c .before .before .before .args .event), omega arith)))
-    returns-2)
+wake-spec = tie.close (tie.spec returns (λ c κs. c .before .before .pre .0) (λ c κs. c .before .holder .ensures .0) returns-2)

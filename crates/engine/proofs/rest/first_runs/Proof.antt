@@ -1,0 +1,47 @@
+-- `first_runs` passes states at rest: the loop has passed those before i.
+-- Assumes nothing.
+use mathlib.Core.Path.{sym, _∙_}
+use Prim.Native.Nat.{_-_, _≤_}
+use native.Mathlib.Omega.{arith}
+use borrow.Author.Tests.{not-false}
+use Rattle.engine.specs.Parts.{Rest}
+use Rattle.engine.proofs.Parts.{rest-none, rest-on}
+use Rattle.engine.proofs.rest.first_runs.Statement.{statement}
+use Rattle.engine.proofs.rest.first_runs.Tie as tie
+
+abbrev Inv-loop : tie.InvT-loop
+Inv-loop records n st i₀ i = (i ≤ records) × Rest n st 0 i
+
+abbrev μ-loop : tie.MeasureT-loop
+μ-loop records n st i₀ i = records - i
+
+loop-holds : tie.Need-loop-holds Inv-loop μ-loop
+loop-holds c = (omega arith, rest-none)
+
+returns : tie.Need-returns Inv-loop μ-loop
+returns c = (omega arith, c .before .before .before .before .loop .inv .1)
+
+loop-less : tie.Need-loop-less Inv-loop μ-loop
+loop-less c = omega (arith, c .before .before .before .before .before .pre)
+
+loop-again : tie.Need-loop-again Inv-loop μ-loop
+loop-again c = (omega arith, rest-on (c .before .before .before .before .loop .inv .1) (sym (c .before .at-rest .ensures) ∙ not-false _ (c .if1 .left)))
+
+returns-2 : tie.Need-returns-2 Inv-loop μ-loop
+returns-2 c = (omega arith, record { still-at = λ k x y. c .before .loop .inv .1 .still-at k x (omega arith) })
+
+pub first-runs-spec : {M : Type 1} → statement M
+first-runs-spec =
+    tie.close
+    (tie.spec
+    Inv-loop
+    μ-loop
+    loop-holds
+    (λ c. omega (arith, c .before .before .pre))
+    (λ c. omega (arith, c .before .before .pre))
+    (λ c κs. tt)
+    returns
+    (λ c. omega (arith, c .before .before .before .before .before .pre))
+    loop-less
+    loop-again
+    returns-2)
