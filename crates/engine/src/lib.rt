@@ -1,4 +1,4 @@
-// A running program: a tree that has begun runs on, and the round of pushes and pops.
+// A running program, on the states of crate walks: what has begun runs on, in a round of pushes and pops.
 mod climb;
 mod held;
 mod part;
