@@ -1,7 +1,7 @@
 /* Performs one row of the benchmark with one implementation a given number of
  * times, for a tool that counts instructions.
  * Usage: bench ROW WORK IMPLEMENTATION TIMES
- *   ROW             check, react, list, query; show writes the outputs
+ *   ROW             check, react, list, query; show writes the answers
  *   WORK            a name from work.h
  *   IMPLEMENTATION  product; quick; machine, for the scenario
  * What a run costs beside the calls is the same for any TIMES, so that (2n
@@ -11,20 +11,39 @@
 #include <stdlib.h>
 #include <string.h>
 
-#include "landarbeso.h"
 #include "quick.h"
 #include "work.h"
 
 static uint8_t out[OUT_BYTES];
 static struct work work;
 
-/* The work of a row is never refused. */
+/* What a program goes on from, from call to call. */
+static struct lent {
+    uint8_t marks[MOST_RECORDS];
+    int32_t variables[VARIABLES];
+    struct landarbeso_totals totals;
+} lent;
+
+/* The work of a row is never refused, and gives back the marks. */
 static void must(bool holds, const char *what)
 {
     if (!holds) {
-        fprintf(stderr, "bench: %s refused\n", what);
+        fprintf(stderr, "bench: not so: %s\n", what);
         exit(1);
     }
+}
+
+/* In one line. */
+static void show_lent(uint32_t records)
+{
+    printf(" totals %" PRIu64 " %" PRIu64 " marks", lent.totals.reactions,
+           lent.totals.steps);
+    for (uint32_t i = 0; i < records; i++)
+        printf(" %u", lent.marks[i]);
+    printf(" variables");
+    for (uint32_t i = 0; i < VARIABLES; i++)
+        printf(" %" PRId32, lent.variables[i]);
+    printf("\n");
 }
 
 static void show_outputs(size_t outputs)
@@ -68,6 +87,7 @@ static void machine_row_list(const struct work *w, uint32_t n)
 
 static void machine_row_show(const struct work *w)
 {
+    machine_row_react(w, WORK_EVENTS);
     show_outputs(machine_run_list(&machine, w->events, sizeof w->events, out,
                                   OUT_BYTES));
 }

@@ -1,6 +1,6 @@
 # The benchmark. From the top Makefile: include tests/bench/bench.mk
 #   make bench          builds all, counts, writes the tables and the picture
-#   make bench-compare  compares the quick interpreter, then the product, with the independent program on random calls
+#   make bench-compare  compares the quick interpreter with the independent program, as tests/comparison compares the product
 
 BENCH_DIR := tests/bench
 BENCH_TARGET := target/bench
@@ -13,10 +13,9 @@ BENCH_SEED ?= 1
 toolchain = $(shell . tests/toolchain.sh && echo "$$$(1)")
 BENCH_CC := $(call toolchain,cc)
 BENCH_FLAGS := -std=c99 -O2 $(call toolchain,warnings) -Iinclude
-BENCH_RUN := $(call toolchain,emulator)
 
 BENCH_QUICK := $(patsubst $(BENCH_DIR)/%.c,%,$(wildcard $(BENCH_DIR)/quick*.c))
-BENCH_HEADERS := $(wildcard $(BENCH_DIR)/*.h $(BENCH_DIR)/*.inc) tests/kinds.h include/landarbeso.h $(BENCH_DIR)/bench.mk tests/toolchain.sh
+BENCH_HEADERS := $(wildcard $(BENCH_DIR)/*.h $(BENCH_DIR)/*.inc) tests/records.h include/landarbeso.h $(BENCH_DIR)/bench.mk tests/toolchain.sh
 
 .PHONY: bench bench-compare
 bench: $(BENCH_TARGET)/bench $(BENCH_TARGET)/stack
@@ -35,13 +34,5 @@ $(BENCH_TARGET)/bench: $(patsubst %,$(BENCH_TARGET)/%.o,bench work scenario mach
 $(BENCH_TARGET)/stack: $(patsubst %,$(BENCH_TARGET)/%.o,stack work scenario $(BENCH_QUICK)) $(BENCH_ARCHIVE)
 	$(BENCH_CC) -static -o $@ $^
 
-# what both comparisons are built of, beside the interpreter that is compared
-BENCH_COMPARE := $(BENCH_FLAGS) -Itests/independent $(patsubst %,$(BENCH_DIR)/%.c,compare compare_draw work scenario) \
-	$(addprefix tests/independent/,$(shell cat tests/independent/library.txt))
-
-bench-compare: $(BENCH_ARCHIVE)
-	@mkdir -p $(BENCH_TARGET)
-	$(BENCH_CC) -o $(BENCH_TARGET)/compare_quick $(BENCH_COMPARE) $(BENCH_QUICK:%=$(BENCH_DIR)/%.c)
-	$(BENCH_RUN) $(BENCH_TARGET)/compare_quick $(BENCH_CALLS) $(BENCH_SEED)
-	$(BENCH_CC) -DWITH_PRODUCT -o $(BENCH_TARGET)/compare_product $(BENCH_COMPARE) $(BENCH_ARCHIVE)
-	$(BENCH_RUN) $(BENCH_TARGET)/compare_product $(BENCH_CALLS) $(BENCH_SEED)
+bench-compare:
+	tests/comparison/run --quick --calls $(BENCH_CALLS) --seed $(BENCH_SEED)

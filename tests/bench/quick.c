@@ -13,9 +13,9 @@ static uint32_t announced_outputs(const struct counts *c)
            c->inside * (1 + announced_emitted(c));
 }
 
-struct quick_checked quick_check(const uint8_t *table, size_t table_bytes)
+struct landarbeso_checked quick_check(const uint8_t *table, size_t table_bytes)
 {
-    struct quick_checked answer = {0, 0, 0, 0, 0, 0};
+    struct landarbeso_checked answer = {0, 0, 0, 0, 0, 0};
     struct counts c;
     if (!quick_accepts(table, table_bytes, &c)) {
         struct refusal r = quick_why_table(table, table_bytes);
@@ -146,15 +146,16 @@ static struct refusal prepare(struct reaction *x, struct counts *c,
     return none;
 }
 
-static struct quick_answer refused(uint32_t number, uint32_t place)
+static struct landarbeso_answer refused(uint32_t number, uint32_t place)
 {
-    struct quick_answer answer = {number, place, 0, 0, 0, 0, 0};
+    struct landarbeso_answer answer = {number, place, 0, 0, 0, 0, 0};
     return answer;
 }
 
-static struct quick_answer done(const struct reaction *x, const uint8_t *out)
+static struct landarbeso_answer done(const struct reaction *x,
+                                     const uint8_t *out)
 {
-    struct quick_answer answer = {
+    struct landarbeso_answer answer = {
         0, 0, x->finished, x->highest, x->steps, x->emitted, 0};
     answer.outputs = (uint64_t)(x->out - out) / RECORD_BYTES;
     return answer;
@@ -165,10 +166,11 @@ static void add_stopping(uint64_t *sum, uint64_t more)
     *sum = *sum + more < more ? UINT64_MAX : *sum + more;
 }
 
-struct quick_answer quick_start(const uint8_t *table, size_t table_bytes,
-                                uint8_t *marks, size_t marks_bytes,
-                                int32_t *variables, size_t variables_count,
-                                uint8_t *out, size_t out_bytes)
+struct landarbeso_answer quick_start(const uint8_t *table, size_t table_bytes,
+                                     uint8_t *marks, size_t marks_bytes,
+                                     int32_t *variables,
+                                     size_t variables_count, uint8_t *out,
+                                     size_t out_bytes)
 {
     struct reaction x;
     struct counts c;
@@ -185,11 +187,13 @@ struct quick_answer quick_start(const uint8_t *table, size_t table_bytes,
     return done(&x, out);
 }
 
-struct quick_answer quick_react(const uint8_t *table, size_t table_bytes,
-                                uint8_t *marks, size_t marks_bytes,
-                                int32_t *variables, size_t variables_count,
-                                uint32_t event, int32_t value, uint8_t *out,
-                                size_t out_bytes, struct quick_totals *totals)
+struct landarbeso_answer quick_react(const uint8_t *table, size_t table_bytes,
+                                     uint8_t *marks, size_t marks_bytes,
+                                     int32_t *variables,
+                                     size_t variables_count, uint32_t event,
+                                     int32_t value, uint8_t *out,
+                                     size_t out_bytes,
+                                     struct landarbeso_totals *totals)
 {
     struct reaction x;
     struct counts c;
@@ -235,16 +239,15 @@ static uint32_t take_events(struct reaction *x, const uint8_t *events,
     return i;
 }
 
-struct quick_answer quick_run_list(const uint8_t *table, size_t table_bytes,
-                                   uint8_t *marks, size_t marks_bytes,
-                                   int32_t *variables, size_t variables_count,
-                                   const uint8_t *events, size_t events_bytes,
-                                   uint8_t *out, size_t out_bytes,
-                                   struct quick_totals *totals)
+struct landarbeso_answer quick_run_list(
+    const uint8_t *table, size_t table_bytes, uint8_t *marks,
+    size_t marks_bytes, int32_t *variables, size_t variables_count,
+    const uint8_t *events, size_t events_bytes, uint8_t *out, size_t out_bytes,
+    struct landarbeso_totals *totals)
 {
     struct reaction x;
     struct counts c;
-    struct quick_answer answer;
+    struct landarbeso_answer answer;
     uint32_t records = (uint32_t)(events_bytes / RECORD_BYTES), taken;
     struct refusal r = prepare(&x, &c, table, table_bytes, marks, marks_bytes,
                                variables, variables_count, 1);
@@ -268,10 +271,10 @@ struct quick_answer quick_run_list(const uint8_t *table, size_t table_bytes,
     return answer;
 }
 
-struct quick_queried quick_query(const uint8_t *table, size_t table_bytes,
-                                 const uint8_t *marks, size_t marks_bytes)
+struct landarbeso_queried quick_query(const uint8_t *table, size_t table_bytes,
+                                      const uint8_t *marks, size_t marks_bytes)
 {
-    struct quick_queried answer = {0, 0, 0, 0};
+    struct landarbeso_queried answer = {0, 0, 0, 0};
     uint8_t state[MOST_RECORDS];
     struct refusal r = {8, 0};
     struct counts c;

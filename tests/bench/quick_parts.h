@@ -3,20 +3,8 @@
 #define QUICK_PARTS_H
 
 #include <stdbool.h>
-#include <stddef.h>
-#include <stdint.h>
-#include <string.h>
 
-#include "../kinds.h"
-
-enum {
-    RECORD_BYTES = 8,
-    MOST_RECORDS = 256,
-    MOST_LOOPS = 8,
-    VARIABLES = 64,
-    LAST_NAME = 63,
-    MOST_LIST_BYTES = 65536
-};
+#include "../records.h"
 
 /* For what is taken apart only to be read: it stays one function. */
 #define INLINE static inline __attribute__((always_inline))
@@ -29,57 +17,6 @@ enum {
     (KIND_BIT(AWAIT_INPUT) | KIND_BIT(AWAIT_INTERNAL) |                       \
      KIND_BIT(EVERY_INPUT) | KIND_BIT(EVERY_INTERNAL) | KIND_BIT(FIN))
 #define PLAIN_KINDS (0xffu | KIND_BIT(IF) | KIND_BIT(SEQUENCE))
-
-/* Eight bytes as one number; the machine is little-endian. */
-static inline uint64_t eight_bytes(const uint8_t *bytes)
-{
-    uint64_t eight;
-    memcpy(&eight, bytes, sizeof eight);
-    return eight;
-}
-
-static inline uint64_t record_at(const uint8_t *table, size_t place)
-{
-    return eight_bytes(table + place * RECORD_BYTES);
-}
-
-static inline uint32_t kind_of(uint64_t record)
-{
-    return (uint8_t)record;
-}
-
-static inline uint32_t name_of(uint64_t record)
-{
-    return (uint8_t)(record >> 8);
-}
-
-static inline uint32_t span_of(uint64_t record)
-{
-    return (uint16_t)(record >> 16);
-}
-
-static inline uint32_t number_of(uint64_t record)
-{
-    return (uint32_t)(record >> 32);
-}
-
-static inline uint32_t kind_at(const uint8_t *table, size_t place)
-{
-    return table[place * RECORD_BYTES];
-}
-
-static inline uint32_t span_at(const uint8_t *table, size_t place)
-{
-    uint16_t span;
-    memcpy(&span, table + place * RECORD_BYTES + 2, sizeof span);
-    return span;
-}
-
-/* Only in a table that has passed stage 2. */
-static inline size_t second_child(const uint8_t *table, size_t place)
-{
-    return place + 1 + span_at(table, place + 1);
-}
 
 /* What follows when a construct has become @nop: one of these in the high
  * byte, a place in the low byte. */

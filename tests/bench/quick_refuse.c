@@ -8,14 +8,6 @@ static struct refusal refusal(uint32_t number, size_t place)
     return r;
 }
 
-static uint32_t children(uint32_t kind)
-{
-    if (kind == LOOP || kind == EVERY_INPUT || kind == EVERY_INTERNAL ||
-        kind == FIN)
-        return 1;
-    return kind == IF || kind == SEQUENCE || kind == AND || kind == OR ? 2 : 0;
-}
-
 /* Stage 2 of one record, by the spans that its children declare. */
 static bool shape_is_right(const uint8_t *table, size_t records, size_t place)
 {

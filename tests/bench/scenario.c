@@ -38,10 +38,9 @@ static const struct {
 void make_scenario(struct work *w)
 {
     for (size_t i = 0; i < sizeof scenario / sizeof *scenario; i++)
-        put_record(w, scenario[i].kind, scenario[i].name, scenario[i].number);
-    end_table(w);
+        add_record(w, scenario[i].kind, scenario[i].name, scenario[i].number);
     for (int32_t contact = 0; contact < WORK_EVENTS / 2; contact++) {
-        put_event(w, 1, 1000 + contact);
-        put_event(w, 2, 2000 + contact);
+        add_event(w, 1, 1000 + contact);
+        add_event(w, 2, 2000 + contact);
     }
 }

@@ -9,7 +9,6 @@
 #include <string.h>
 #include <ucontext.h>
 
-#include "landarbeso.h"
 #include "quick.h"
 #include "work.h"
 
@@ -29,15 +28,6 @@ static ucontext_t here, there;
 #define CALL(name) landarbeso_##name
 #define ROW(name) product_stack_##name
 #include "stack.inc"
-
-/* Only the product writes out the remaining program. */
-static void product_calls(void)
-{
-    product_stack_calls();
-    refused |= landarbeso_remaining(work.table, work.records * RECORD_BYTES,
-                                    marks, work.records, out, OUT_BYTES)
-                   .refused;
-}
 
 static void no_calls(void)
 {
@@ -71,15 +61,15 @@ static size_t used_by(void (*calls)(void))
 static void nest(uint32_t kind, bool left)
 {
     uint32_t pairs = (MOST_RECORDS - 2) / 2;
-    put_record(&work, LOOP, 0, 0);
+    add_record(&work, LOOP, 0, 0);
     for (uint32_t i = 0; i < pairs; i++) {
-        put_record(&work, kind, 0, 0);
+        add_record(&work, kind, 0, 0);
         if (!left)
-            put_record(&work, AWAIT_INPUT, 1 + i % 2, 0);
+            add_record(&work, AWAIT_INPUT, 1 + i % 2, 0);
     }
-    put_record(&work, AWAIT_INPUT, 1, 0);
+    add_record(&work, AWAIT_INPUT, 1, 0);
     for (uint32_t i = 0; left && i < pairs; i++)
-        put_record(&work, AWAIT_INPUT, 1 + i % 2, 0);
+        add_record(&work, AWAIT_INPUT, 1 + i % 2, 0);
 }
 
 /* Eight loops, then and, or, sequence, if in turn on the left, and at the
@@ -89,13 +79,13 @@ static void nest_all_kinds(void)
     static const uint8_t kinds[] = {AND, OR, SEQUENCE, IF};
     uint32_t pairs = (MOST_RECORDS - 8 - 1) / 2;
     for (uint32_t i = 0; i < 7; i++)
-        put_record(&work, LOOP, 0, 0);
+        add_record(&work, LOOP, 0, 0);
     for (uint32_t i = 0; i < pairs; i++)
-        put_record(&work, kinds[i % 4], 0, 0);
-    put_record(&work, LOOP, 0, 0);
-    put_record(&work, AWAIT_INPUT, 1, 0);
+        add_record(&work, kinds[i % 4], 0, 0);
+    add_record(&work, LOOP, 0, 0);
+    add_record(&work, AWAIT_INPUT, 1, 0);
     for (uint32_t i = 0; i < pairs; i++)
-        put_record(&work, AWAIT_INPUT, 2 + i % 3, 0);
+        add_record(&work, AWAIT_INPUT, 2 + i % 3, 0);
 }
 
 /* Makes the shape of this number; NULL behind the last. */
@@ -124,10 +114,10 @@ static const char *make_shape(uint32_t shape)
             nest_all_kinds();
         else
             nest(kinds[shape / 2], shape % 2 == 0);
-        end_table(&work);
+        put_spans(work.table, work.records);
     }
     while (work.event_count < WORK_EVENTS)
-        put_event(&work, 1 + work.event_count % 2, 5);
+        add_event(&work, 1 + work.event_count % 2, 5);
     return names[shape];
 }
 
@@ -142,7 +132,7 @@ int main(int count, char **words)
     }
     for (uint32_t shape = 0; (name = make_shape(shape)) != NULL; shape++) {
         size_t used =
-            used_by(product ? product_calls : quick_stack_calls) - base;
+            used_by(product ? product_stack_calls : quick_stack_calls) - base;
         printf("%zu %s\n", used, name);
         most = used > most ? used : most;
     }

@@ -2,7 +2,9 @@
 #ifndef WORK_H
 #define WORK_H
 
-#include "quick_parts.h"
+#include <stdbool.h>
+
+#include "../records.h"
 
 enum { WORK_EVENTS = 100, OUT_BYTES = 1 << 20 };
 
@@ -13,10 +15,9 @@ struct work {
     uint32_t event_count; /* WORK_EVENTS once the work is whole */
 };
 
-/* Appends a record in preorder; its span is set by end_table. */
-void put_record(struct work *w, uint32_t kind, uint32_t name, int32_t number);
-void end_table(struct work *w);
-void put_event(struct work *w, uint32_t event, int32_t value);
+/* Each appends one; records are in preorder, and their spans come last. */
+void add_record(struct work *w, uint32_t kind, uint32_t name, int32_t number);
+void add_event(struct work *w, uint32_t event, int32_t value);
 
 /* Fills the work of this name; false where there is none. The names:
  *   small, medium, full         programs of 10, 65 and 256 records

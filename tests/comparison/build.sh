@@ -23,3 +23,8 @@ link_with() {
     shift 2
     $cc $flags -o "$program" "$target"/own/*.o "$target"/independent/*.o "$@"
 }
+
+# link_with_quick PROGRAM TARGET FAULT FOLDER: with the quick interpreter of this folder under the archive's names; FAULT is one of broken/faults.h, 0 none
+link_with_quick() {
+    link_with "$1" "$2" -I"$root/include" -I"$4" -I"$here/broken" -DFAULT="$3" "$here/broken/standin.c" "$4"/quick*.c
+}

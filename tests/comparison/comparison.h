@@ -8,22 +8,15 @@
 #define COMPARISON_H
 
 #include <stdbool.h>
-#include <stddef.h>
-#include <stdint.h>
 
 #include "independent.h"
-#include "../kinds.h"
+#include "../records.h"
 
 /* How many entries an array has. */
 #define COUNT(row) (sizeof(row) / sizeof *(row))
 
 enum {
-    RECORD_BYTES = 8,
-    MOST_RECORDS = 256,
-    MOST_LOOPS = 8,
-    VARIABLES = 64,
-    LAST_NAME = 63,
-    MOST_LIST_RECORDS = 8192,
+    MOST_LIST_RECORDS = MOST_LIST_BYTES / RECORD_BYTES,
     TABLE_ROOM = (MOST_RECORDS + 8) * RECORD_BYTES,
     MARKS_ROOM = MOST_RECORDS + 8,
     VARIABLES_ROOM = VARIABLES + 8,
@@ -123,15 +116,11 @@ int32_t draw_number(void);
 
 /* grow.c, marks.c, scenario.c: programs, marks, scenarios. */
 uint32_t grow_program(uint8_t *table, uint32_t most, bool careless);
-uint32_t children(uint32_t kind);
 bool waits(uint32_t kind);
-uint32_t span_at(const uint8_t *table, size_t place);
-size_t second_child(const uint8_t *table, size_t place);
-void put_record(uint8_t *table, size_t place, uint32_t kind, uint32_t name,
-                int32_t number);
-void put_span(uint8_t *table, size_t place, size_t span);
 void fitting_marks(const uint8_t *table, uint8_t *marks);
 void draw_scenario(struct scenario *s, uint64_t seed, uint64_t number);
+void add_record(struct scenario *s, uint32_t kind, uint32_t name,
+                int32_t number);
 struct call *add_call(struct scenario *s, enum call_kind kind);
 
 /* damage.c: wrong tables, marks, lengths, events, lists. */

@@ -20,11 +20,8 @@ static void change_kind(uint8_t *record)
 
 static void become_break(uint8_t *record)
 {
-    if (children(record[0]) != 0)
-        return;
-    memset(record, 0, RECORD_BYTES);
-    record[0] = BREAK;
-    record[2] = 1;
+    if (children(record[0]) == 0)
+        put_record(record, 0, BREAK, 0, 0);
 }
 
 static void damage_record(uint8_t *record)

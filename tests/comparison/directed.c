@@ -92,17 +92,6 @@ static const struct example examples[] = {
       {OUTPUT, 63, 1}}},
 };
 
-/* Writes the spans of a construct and of all below it. */
-static size_t write_spans(uint8_t *table, size_t place)
-{
-    size_t span = 1;
-    uint32_t below = children(table[place * RECORD_BYTES]);
-    for (; below > 0; below--)
-        span += write_spans(table, place + span);
-    put_span(table, place, span);
-    return span;
-}
-
 /* Nothing but zeros; the variables are not all the same. */
 void begin_directed(struct scenario *s, const char *name)
 {
@@ -145,18 +134,23 @@ static void calls_of_example(struct scenario *s)
     ask(s);
 }
 
+/* Once all records stand. */
+static bool attempt_example(struct scenario *s, try_scenario attempt)
+{
+    put_spans(s->table, s->records);
+    calls_of_example(s);
+    return attempt(s);
+}
+
 static bool the_examples(try_scenario attempt)
 {
     struct scenario s;
     for (size_t i = 0; i < COUNT(examples); i++) {
         const struct example *e = &examples[i];
         begin_directed(&s, e->name);
-        for (s.records = 0; s.records < e->lines; s.records++)
-            put_record(s.table, s.records, e->line[s.records].kind,
-                       e->line[s.records].name, e->line[s.records].number);
-        write_spans(s.table, 0);
-        calls_of_example(&s);
-        if (!attempt(&s))
+        for (const struct line *l = e->line; l < e->line + e->lines; l++)
+            add_record(&s, l->kind, l->name, l->number);
+        if (!attempt_example(&s, attempt))
             return false;
     }
     return true;
@@ -168,12 +162,10 @@ static bool nested_loops(try_scenario attempt)
     struct scenario s;
     for (uint32_t loops = 7; loops <= 10; loops++) {
         begin_directed(&s, "nested loops");
-        for (s.records = 0; s.records < loops; s.records++)
-            put_record(s.table, s.records, LOOP, 0, 0);
-        put_record(s.table, s.records++, AWAIT_INPUT, 1, 0);
-        write_spans(s.table, 0);
-        calls_of_example(&s);
-        if (!attempt(&s))
+        for (uint32_t i = 0; i < loops; i++)
+            add_record(&s, LOOP, 0, 0);
+        add_record(&s, AWAIT_INPUT, 1, 0);
+        if (!attempt_example(&s, attempt))
             return false;
     }
     return true;
@@ -187,17 +179,14 @@ static bool many_records(try_scenario attempt, enum kind kind, uint32_t last)
         uint32_t odd = records % 2;
         begin_directed(&s, "as many records as can be");
         if (!odd)
-            put_record(s.table, s.records++, LOOP, 0, 0);
+            add_record(&s, LOOP, 0, 0);
         while (s.records < records - 1) {
-            put_record(s.table, s.records, kind, 0, 0);
-            put_record(s.table, s.records + 1, AWAIT_INPUT,
-                       1 + s.records % LAST_NAME, 0);
-            s.records += 2;
+            uint32_t event = 1 + s.records % LAST_NAME;
+            add_record(&s, kind, 0, 0);
+            add_record(&s, AWAIT_INPUT, event, 0);
         }
-        put_record(s.table, s.records++, AWAIT_INPUT, last, 0);
-        write_spans(s.table, 0);
-        calls_of_example(&s);
-        if (!attempt(&s))
+        add_record(&s, AWAIT_INPUT, last, 0);
+        if (!attempt_example(&s, attempt))
             return false;
     }
     return true;
@@ -208,22 +197,20 @@ static bool many_outputs(try_scenario attempt)
 {
     struct scenario s;
     begin_directed(&s, "many outputs");
-    put_record(s.table, s.records++, LOOP, 0, 0);
+    add_record(&s, LOOP, 0, 0);
     for (uint32_t i = 0; i < 60; i++) {
-        put_record(s.table, s.records++, AND, 0, 0);
-        put_record(s.table, s.records++, EVERY_INTERNAL, 63, 0);
-        put_record(s.table, s.records++, OUTPUT, 1 + i, (int32_t)i);
+        add_record(&s, AND, 0, 0);
+        add_record(&s, EVERY_INTERNAL, 63, 0);
+        add_record(&s, OUTPUT, 1 + i, (int32_t)i);
     }
-    put_record(s.table, s.records++, SEQUENCE, 0, 0);
-    put_record(s.table, s.records++, AWAIT_INPUT, 1, 0);
+    add_record(&s, SEQUENCE, 0, 0);
+    add_record(&s, AWAIT_INPUT, 1, 0);
     while (s.records < MOST_RECORDS - 2) {
-        put_record(s.table, s.records++, SEQUENCE, 0, 0);
-        put_record(s.table, s.records++, EMIT, 63, 0);
+        add_record(&s, SEQUENCE, 0, 0);
+        add_record(&s, EMIT, 63, 0);
     }
-    put_record(s.table, s.records++, EMIT, 63, 0);
-    write_spans(s.table, 0);
-    calls_of_example(&s);
-    return attempt(&s);
+    add_record(&s, EMIT, 63, 0);
+    return attempt_example(&s, attempt);
 }
 
 /* The totals stop at the largest value, each by itself. */
@@ -233,10 +220,9 @@ static bool totals_at_the_top(try_scenario attempt)
     for (uint32_t i = 0; i < 64; i++) {
         struct call *c;
         begin_directed(&s, "totals at the top");
-        put_record(s.table, 0, EVERY_INPUT, 1, 0);
-        put_record(s.table, 1, OUTPUT, 1, 0);
-        s.records = 2;
-        write_spans(s.table, 0);
+        add_record(&s, EVERY_INPUT, 1, 0);
+        add_record(&s, OUTPUT, 1, 0);
+        put_spans(s.table, s.records);
         s.first.totals[0] = i / 8 == 7 ? 5 : UINT64_MAX - i / 8;
         s.first.totals[1] = i % 8 == 7 ? 5 : UINT64_MAX - i % 8;
         add_call(&s, START);

@@ -3,28 +3,26 @@
  * call refuses. */
 #include "comparison.h"
 
-static void put_words(struct scenario *s, const uint8_t (*words)[3],
+static void put_words(struct scenario *s, const uint8_t (*words)[2],
                       uint32_t records)
 {
-    for (uint32_t i = 0; i < records; i++) {
-        put_record(s->table, i, words[i][0], words[i][1], 0);
-        put_span(s->table, i, words[i][2]);
-    }
-    s->records = records;
+    for (uint32_t i = 0; i < records; i++)
+        add_record(s, words[i][0], words[i][1], 0);
+    put_spans(s->table, s->records);
 }
 
 /* Four programs: with outputs, with an every that emits cannot reach, with
  * nothing to announce, and one record. */
 static void begin_with(struct scenario *s, uint32_t which, const char *name)
 {
-    static const uint8_t a_fin[][3] = {
-        {OR, 0, 4}, {FIN, 0, 2}, {OUTPUT, 2, 1}, {AWAIT_INPUT, 1, 1}};
-    static const uint8_t an_every[][3] = {
-        {AND, 0, 6},      {EVERY_INPUT, 1, 2}, {OUTPUT, 1, 1},
-        {SEQUENCE, 0, 3}, {AWAIT_INPUT, 1, 1}, {EMIT, 1, 1}};
-    static const uint8_t silent[][3] = {
-        {LOOP, 0, 4}, {SEQUENCE, 0, 3}, {AWAIT_INPUT, 1, 1}, {EMIT, 1, 1}};
-    static const uint8_t one[][3] = {{AWAIT_INPUT, 1, 1}};
+    static const uint8_t a_fin[][2] = {
+        {OR, 0}, {FIN, 0}, {OUTPUT, 2}, {AWAIT_INPUT, 1}};
+    static const uint8_t an_every[][2] = {{AND, 0},         {EVERY_INPUT, 1},
+                                          {OUTPUT, 1},      {SEQUENCE, 0},
+                                          {AWAIT_INPUT, 1}, {EMIT, 1}};
+    static const uint8_t silent[][2] = {
+        {LOOP, 0}, {SEQUENCE, 0}, {AWAIT_INPUT, 1}, {EMIT, 1}};
+    static const uint8_t one[][2] = {{AWAIT_INPUT, 1}};
     begin_directed(s, name);
     if (which == 0)
         put_words(s, a_fin, 4);

@@ -5,26 +5,19 @@
 
 #include "comparison.h"
 
-static void put_here(struct scenario *s, uint32_t kind, uint32_t name,
-                     int32_t number)
+/* A record of the kind with right name and number, and what stands below;
+ * spans come last. */
+static void add_construct(struct scenario *s, uint32_t kind)
 {
-    put_record(s->table, s->records++, kind, name, number);
-}
-
-/* A record of the kind with right name and number, and what stands below. */
-static void put_construct(struct scenario *s, uint32_t kind)
-{
-    uint32_t place = s->records;
     uint32_t named = (kind >= SET && kind <= EMIT) || kind == EVERY_INPUT ||
                      kind == EVERY_INTERNAL;
-    put_here(s, kind, named, 0);
+    add_record(s, kind, named, 0);
     for (uint32_t below = children(kind); below > 0; below--)
-        put_here(s,
-                 kind >= EVERY_INPUT && kind != AND && kind != OR
-                     ? OUTPUT
-                     : AWAIT_INPUT,
-                 1, 0);
-    put_span(s->table, place, s->records - place);
+        add_record(s,
+                   kind >= EVERY_INPUT && kind != AND && kind != OR
+                       ? OUTPUT
+                       : AWAIT_INPUT,
+                   1, 0);
 }
 
 static bool check_and_start(struct scenario *s, try_scenario attempt)
@@ -41,10 +34,10 @@ static bool check_and_start(struct scenario *s, try_scenario attempt)
 static void begin_record(struct scenario *s, uint32_t kind, const char *name)
 {
     begin_directed(s, name);
-    put_here(s, SEQUENCE, 0, 0);
-    put_construct(s, kind);
-    put_here(s, AWAIT_INPUT, 1, 0);
-    put_span(s->table, 0, s->records);
+    add_record(s, SEQUENCE, 0, 0);
+    add_construct(s, kind);
+    add_record(s, AWAIT_INPUT, 1, 0);
+    put_spans(s->table, s->records);
 }
 
 static bool names_and_numbers(uint32_t kind, try_scenario attempt)
@@ -54,12 +47,10 @@ static bool names_and_numbers(uint32_t kind, try_scenario attempt)
         0, 1, 62, 63, 64, 65, 256, 1 << 24, -1, INT32_MAX, INT32_MIN};
     struct scenario s;
     for (size_t i = 0; i < COUNT(names) * COUNT(numbers); i++) {
-        uint32_t span;
         begin_record(&s, kind, "names and numbers");
-        span = span_at(s.table, 1);
         put_record(s.table, 1, kind, names[i / COUNT(numbers)],
                    numbers[i % COUNT(numbers)]);
-        put_span(s.table, 1, span);
+        put_spans(s.table, s.records);
         if (!check_and_start(&s, attempt))
             return false;
     }
@@ -91,12 +82,11 @@ static bool kinds_below(uint32_t kind, try_scenario attempt)
         uint32_t kind_above = above[i / 2];
         begin_directed(&s, "one kind under another");
         if (loop)
-            put_here(&s, LOOP, 0, 0);
-        put_here(&s, kind_above,
-                 kind_above <= EVERY_INTERNAL && kind_above != LOOP, 0);
-        put_construct(&s, kind);
-        for (uint32_t place = 0; place <= loop; place++)
-            put_span(s.table, place, s.records - place);
+            add_record(&s, LOOP, 0, 0);
+        add_record(&s, kind_above,
+                   kind_above <= EVERY_INTERNAL && kind_above != LOOP, 0);
+        add_construct(&s, kind);
+        put_spans(s.table, s.records);
         if (!check_and_start(&s, attempt))
             return false;
     }
@@ -110,12 +100,11 @@ static bool pair_in_a_loop(uint32_t a, uint32_t b, try_scenario attempt)
     struct scenario s;
     for (size_t i = 0; i < COUNT(pairs); i++) {
         begin_directed(&s, "a pair in a loop");
-        put_here(&s, LOOP, 0, 0);
-        put_here(&s, pairs[i], 0, 0);
-        put_construct(&s, a);
-        put_construct(&s, b);
-        put_span(s.table, 0, s.records);
-        put_span(s.table, 1, s.records - 1);
+        add_record(&s, LOOP, 0, 0);
+        add_record(&s, pairs[i], 0, 0);
+        add_construct(&s, a);
+        add_construct(&s, b);
+        put_spans(s.table, s.records);
         if (!check_and_start(&s, attempt))
             return false;
     }
@@ -154,12 +143,11 @@ static bool marks_of_pairs(uint32_t kind, try_scenario attempt)
         uint32_t loop = (uint32_t)(i % 2);
         begin_directed(&s, "every row of marks");
         if (loop)
-            put_here(&s, LOOP, 0, 0);
-        put_here(&s, kind, 0, 0);
-        put_construct(&s, below[i / 2 / COUNT(below)]);
-        put_construct(&s, below[i / 2 % COUNT(below)]);
-        for (uint32_t place = 0; place <= loop; place++)
-            put_span(s.table, place, s.records - place);
+            add_record(&s, LOOP, 0, 0);
+        add_record(&s, kind, 0, 0);
+        add_construct(&s, below[i / 2 / COUNT(below)]);
+        add_construct(&s, below[i / 2 % COUNT(below)]);
+        put_spans(s.table, s.records);
         if (!all_marks(&s, attempt))
             return false;
     }

@@ -17,46 +17,10 @@ struct growth {
     bool broken;     /* the nearest loop has a break of its own */
 };
 
-uint32_t children(uint32_t kind)
-{
-    if (kind == IF || kind == SEQUENCE || kind == AND || kind == OR)
-        return 2;
-    return kind < LOOP || kind >= KINDS ? 0 : 1;
-}
-
 bool waits(uint32_t kind)
 {
     return kind == AWAIT_INPUT || kind == AWAIT_INTERNAL ||
            kind == EVERY_INPUT || kind == EVERY_INTERNAL || kind == FIN;
-}
-
-uint32_t span_at(const uint8_t *table, size_t place)
-{
-    const uint8_t *record = table + place * RECORD_BYTES;
-    return record[2] + 256u * record[3];
-}
-
-size_t second_child(const uint8_t *table, size_t place)
-{
-    return place + 1 + span_at(table, place + 1);
-}
-
-void put_span(uint8_t *table, size_t place, size_t span)
-{
-    table[place * RECORD_BYTES + 2] = (uint8_t)span;
-    table[place * RECORD_BYTES + 3] = (uint8_t)(span >> 8);
-}
-
-/* With a span of 1. */
-void put_record(uint8_t *table, size_t place, uint32_t kind, uint32_t name,
-                int32_t number)
-{
-    uint8_t *record = table + place * RECORD_BYTES;
-    record[0] = (uint8_t)kind;
-    record[1] = (uint8_t)name;
-    put_span(table, place, 1);
-    for (int b = 0; b < 4; b++)
-        record[4 + b] = (uint8_t)((uint32_t)number >> 8 * b);
 }
 
 static uint32_t put(struct growth *g, uint32_t kind, uint32_t name,

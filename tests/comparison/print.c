@@ -32,14 +32,11 @@ static void print_table(const struct scenario *s)
 {
     printf("records: place kind name span number\n");
     for (size_t place = 0; place < s->records; place++) {
-        const uint8_t *r = s->table + place * RECORD_BYTES;
-        int64_t number = r[4] + 256 * (int64_t)r[5] + 65536 * (int64_t)r[6] +
-                         16777216 * (int64_t)r[7];
-        if (number > INT32_MAX)
-            number -= 4294967296;
-        printf("  %3zu  %2u %-14s %3u %5u %" PRId64 "\n", place, r[0],
-               r[0] < KINDS ? kind_names[r[0]] : "?", r[1],
-               span_at(s->table, place), number);
+        uint64_t record = record_at(s->table, place);
+        uint32_t kind = kind_of(record);
+        printf("  %3zu  %2u %-14s %3u %5u %" PRId32 "\n", place, kind,
+               kind < KINDS ? kind_names[kind] : "?", name_of(record),
+               span_of(record), (int32_t)number_of(record));
     }
 }
 
@@ -136,7 +133,7 @@ void print_failure(const struct scenario *s, const struct difference *d)
         if (takes(s->call[d->call].kind, slice))
             printf(" %s %zu", slice_names[slice], d->lengths[slice]);
     printf("\n");
-    print_answer("the archive answers      ", &d->ours);
+    print_answer("what is compared answers ", &d->ours);
     print_answer("the independent program  ", &d->theirs);
     if (d->ours_there != d->theirs_there)
         printf("at byte %zu: %u where %u should be\n", d->at, d->ours_there,

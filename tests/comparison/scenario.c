@@ -3,6 +3,13 @@
 
 #include "comparison.h"
 
+/* In preorder; its span is 1. */
+void add_record(struct scenario *s, uint32_t kind, uint32_t name,
+                int32_t number)
+{
+    put_record(s->table, s->records++, kind, name, number);
+}
+
 struct call *add_call(struct scenario *s, enum call_kind kind)
 {
     struct call *c = &s->call[s->calls++];

@@ -4,9 +4,9 @@
 #define CALLS_H
 
 #include "landarbeso.h"
-#include "../kinds.h"
+#include "../records.h"
 
-enum { RECORD_BYTES = 8, VARIABLES = 64, ROOM = 96, BEHIND = 0xA5 };
+enum { ROOM = 96, BEHIND = 0xA5 };
 
 /* A program under test with all that is lent to it; every byte that no call
  * writes stays BEHIND. */
