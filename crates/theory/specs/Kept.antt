@@ -6,8 +6,8 @@ use lib.Dec.{eqb}
 use lib.ListN.{getD, set}
 use Rattle.rules.specs.Stages.{if_then_else_}
 use Rattle.rules.specs.Tree.{Par, Tree, act, and, atLoop, atPar, await, break, canrun, emit, every, fin, ifvar, loop, nop, or, par, seq}
-use Rattle.theory.specs.State.{Ops, How, idle, ended, broke, waiting, ringing, Walk, walk, Swept, swept, Then, sweepOwn, sweepEither, sweepHeld, sweepBoth, sweep, execSeq, execLoop, afterRight, execPar, exec, resumeIf, resumeSeq, resumeLoop, takeTurn, rightAlone, resumeBoth, resumeHeld, resume}
-use Rattle.theory.specs.Frame.{At, Within, Laid, Fork, Stem, Part, within-refl, within-trans, part-within, set-within, leaf-own, stem-own, body-part, fork-own, left-part, right-part}
+use Rattle.theory.specs.State.{Ops, How, idle, ended, broke, waiting, ringing, Walk, walk, Swept, swept, Then, sweepHeld, sweepBoth, sweep, execSeq, execLoop, afterRight, execPar, exec, resumeIf, resumeSeq, resumeLoop, takeTurn, rightAlone, resumeBoth, resumeHeld, resume}
+use Rattle.theory.specs.Frame.{At, Within, Laid, Fork, Stem, within-refl, within-trans, part-within, set-within, leaf-own, stem-own, body-part, fork-own, left-part, right-part}
 
 module _ {M : Type 0} (o : Ops M) where
   -- what a walk that begins anywhere does to the states: it keeps to the places of t

@@ -14,7 +14,7 @@ use Rattle.theory.specs.Round.{turnOf, heard, heardOf, onward}
 use Rattle.theory.specs.Frame.{placeOf, Blank, Within, Fork, Laid, apart-same, left-right, right-left, left-kept}
 use Rattle.theory.specs.Resume.{idle-resume}
 use Rattle.theory.specs.Kept.{resume-kept}
-use Rattle.theory.specs.Still.{resting, lives, still-same, lives-same, not-turn, still-resume}
+use Rattle.theory.specs.Still.{resting, live, still-same, live-same, not-turn, still-resume}
 
 -- of a tree only this part runs: beside it all rests, and nothing that lives comes before it
 pub data Only (n : ℕ) (l : List ℕ) : Tree → Tree → Type 0 where
@@ -126,11 +126,11 @@ module _ {M : Type 0} (o : Ops M) (n : ℕ) where
   past-left c p false (ringing v) l m left e = refl
 
   -- a left that rests still does after the right has run
-  left-rests : {t p q : Tree} {i : ℕ} → Fork t i p q → Laid p → Laid q → (l : List ℕ) → still n p l ≡ true → (m : M) → (let r = resume o n q l m in resume o n p (r .states) (r .memory) ≡ walk (resting (lives p l)) (r .states) (r .memory))
+  left-rests : {t p q : Tree} {i : ℕ} → Fork t i p q → Laid p → Laid q → (l : List ℕ) → still n p l ≡ true → (m : M) → (let r = resume o n q l m in resume o n p (r .states) (r .memory) ≡ walk (resting (live p l)) (r .states) (r .memory))
   left-rests {p = p} {q = q} z y x l e m =
       let r = resume o n q l m in
       let s = apart-same (right-left z) (resume-kept o n q x l m) in
-      rw (still-resume o n p (r .states) (r .memory) (still-same n p y s ∙ e) y, lives-same p y s)
+      rw (still-resume o n p (r .states) (r .memory) (still-same n p y s ∙ e) y, live-same p y s)
 
   in-left : {t p q : Tree} {i : ℕ} → Fork t i p q → ltb (placeOf p) (placeOf q) ≡ true
   in-left {p = p} {q = q} z = lt-ltb (placeOf p) (placeOf q) (omega (arith, some-place p))
@@ -152,8 +152,8 @@ module _ {M : Type 0} (o : Ops M) (n : ℕ) where
       let r = resume o n q l m in
       rw (in-right q, e) (
       ap (λ (s : Walk M). resumeBoth o c p q (s .how) s (resume o n q)) (still-resume o n p l m b (z .1))
-      ∙ both-passed c p q (lives p l) l m (resume o n q)
-      ∙ past-left c p (lives p l) (r .how) (r .states) (r .memory) (resume o n p) (left-rests (z .0) (z .1) (z .2) l b m)
+      ∙ both-passed c p q (live p l) l m (resume o n q)
+      ∙ past-left c p (live p l) (r .how) (r .states) (r .memory) (resume o n p) (left-rests (z .0) (z .1) (z .2) l b m)
       )
 
   -- ---- where the part waits or has an event pending, so does the tree
@@ -201,9 +201,9 @@ module _ {M : Type 0} (o : Ops M) (n : ℕ) where
         let w = subst (λ (s : Walk M). Within p l (s .states)) e (resume-kept o n p (z .1) l m) in
         let f = still-resume o n q l′ m′ (still-same n q (z .2) (apart-same (left-right (z .0)) w) ∙ b) (z .2) in
         ap (λ (r : Walk M). if eqb (getD l i 0) 0 then resumeBoth o c p q (r .how) r (resume o n q) else resumeHeld o n i c p (r .how) r (exec o n q)) e
-        ∙ either (eqb (getD l i 0) 0) (both-stays l′ m′ c p q (lives q l′) (resume o n q) f stays) (held-stays l′ m′ i c p (exec o n q) (rw (left-kept (z .0) w) (not-turn n (getD l i 0) a)) stays)
+        ∙ either (eqb (getD l i 0) 0) (both-stays l′ m′ c p q (live q l′) (resume o n q) f stays) (held-stays l′ m′ i c p (exec o n q) (rw (left-kept (z .0) w) (not-turn n (getD l i 0) a)) stays)
     part-stays (right-of-par {c = c} {p = p} {q = q} a b d) z e =
-        rw (b, still-resume o n p l m d (z .1)) (both-passed c p q (lives p l) l m (resume o n q) ∙ rw e (passed-stays l′ m′ c p (lives p l) stays))
+        rw (b, still-resume o n p l m d (z .1)) (both-passed c p q (live p l) l m (resume o n q) ∙ rw e (passed-stays l′ m′ c p (live p l) stays))
 
   -- ---- where the program is blocked, resuming it does nothing
 
@@ -216,5 +216,5 @@ module _ {M : Type 0} (o : Ops M) (n : ℕ) where
       rests false = refl
 
       go : (b : Bool) → still (turnOf v) p l ≡ b → (if b then heard 0 l m else heardOf (resume o (turnOf v) p l m)) ≡ heardOf (resume o (turnOf v) p l m)
-      go true x = rw (still-resume o (turnOf v) p l m x z) (rests (lives p l))
+      go true x = rw (still-resume o (turnOf v) p l m x z) (rests (live p l))
       go false x = refl

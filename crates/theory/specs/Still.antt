@@ -9,32 +9,32 @@ use Rattle.rules.specs.Stages.{if_then_else_}
 use Rattle.rules.specs.Tree.{Par, Tree, act, atLoop, atPar, await, break, canrun, emit, every, fin, ifvar, loop, nop, par, seq}
 use Rattle.theory.specs.Logic.{clash}
 use Rattle.theory.specs.State.{Ops, How, idle, waiting, Walk, walk, Then, exec, resumeIf, resumeSeq, resumeLoop, resumeBoth, resumeHeld, resume, stillAt, still}
-use Rattle.theory.specs.Frame.{At, Same, Leaf, Stem, Fork, Laid, part-at, part-same, leaf-own, stem-own, fork-own, body-part, left-part, right-part}
+use Rattle.theory.specs.Frame.{At, Same, Laid, part-at, part-same, leaf-own, stem-own, fork-own, body-part, left-part, right-part}
 
 -- how a walk ends where nothing runs, by whether anything lives
 abbrev pub resting : Bool → How
 resting true = waiting
 resting false = idle
 
-abbrev livesAt : List ℕ → ℕ → Bool
-livesAt l i = not (eqb (getD l i 0) 0)
+abbrev liveAt : List ℕ → ℕ → Bool
+liveAt l i = not (eqb (getD l i 0) 0)
 
 -- something that has a state is not idle
-unfoldable pub lives : Tree → List ℕ → Bool
-lives (nop i) l = false
-lives (act i a v k) l = false
-lives (await i s e) l = livesAt l i
-lives (emit i e y) l = livesAt l i
-lives (break i) l = false
-lives (ifvar i v p q) l = lives p l || lives q l
-lives (seq i p q) l = lives p l || lives q l
-lives (loop i p) l = lives p l
-lives (every i s e p) l = livesAt l i
-lives (par i c p q) l = livesAt l i || (lives p l || lives q l)
-lives (fin i p) l = livesAt l i
-lives (canrun i m) l = false
-lives (atLoop i p q) l = false
-lives (atPar i c p q) l = false
+unfoldable pub live : Tree → List ℕ → Bool
+live (nop i) l = false
+live (act i a v k) l = false
+live (await i s e) l = liveAt l i
+live (emit i e y) l = liveAt l i
+live (break i) l = false
+live (ifvar i v p q) l = live p l || live q l
+live (seq i p q) l = live p l || live q l
+live (loop i p) l = live p l
+live (every i s e p) l = liveAt l i
+live (par i c p q) l = liveAt l i || (live p l || live q l)
+live (fin i p) l = liveAt l i
+live (canrun i m) l = false
+live (atLoop i p q) l = false
+live (atPar i c p q) l = false
 
 -- ---- where every state rests
 
@@ -75,22 +75,22 @@ module _ {l l′ : List ℕ} where
   still-same n (atLoop i p q) z s = absurd z
   still-same n (atPar i c p q) z s = absurd z
 
-  pub lives-same : (t : Tree) → Laid t → Same t l l′ → lives t l′ ≡ lives t l
-  unfolding lives Laid
-  lives-same (nop i) z s = refl
-  lives-same (act i a v k) z s = refl
-  lives-same (await i c e) z s = rw (s .same-at i (leaf-own z))
-  lives-same (emit i e y) z s = rw (s .same-at i (leaf-own z))
-  lives-same (break i) z s = refl
-  lives-same (ifvar i v p q) z s = rw (lives-same p (z .1) (part-same (left-part (z .0)) s), lives-same q (z .2) (part-same (right-part (z .0)) s))
-  lives-same (seq i p q) z s = rw (lives-same p (z .1) (part-same (left-part (z .0)) s), lives-same q (z .2) (part-same (right-part (z .0)) s))
-  lives-same (loop i p) z s = lives-same p (z .1) (part-same (body-part (z .0)) s)
-  lives-same (every i c e p) z s = rw (s .same-at i (stem-own (z .0)))
-  lives-same (par i c p q) z s = rw (s .same-at i (fork-own (z .0)), lives-same p (z .1) (part-same (left-part (z .0)) s), lives-same q (z .2) (part-same (right-part (z .0)) s))
-  lives-same (fin i p) z s = rw (s .same-at i (stem-own (z .0)))
-  lives-same (canrun i k) z s = absurd z
-  lives-same (atLoop i p q) z s = absurd z
-  lives-same (atPar i c p q) z s = absurd z
+  pub live-same : (t : Tree) → Laid t → Same t l l′ → live t l′ ≡ live t l
+  unfolding live Laid
+  live-same (nop i) z s = refl
+  live-same (act i a v k) z s = refl
+  live-same (await i c e) z s = rw (s .same-at i (leaf-own z))
+  live-same (emit i e y) z s = rw (s .same-at i (leaf-own z))
+  live-same (break i) z s = refl
+  live-same (ifvar i v p q) z s = rw (live-same p (z .1) (part-same (left-part (z .0)) s), live-same q (z .2) (part-same (right-part (z .0)) s))
+  live-same (seq i p q) z s = rw (live-same p (z .1) (part-same (left-part (z .0)) s), live-same q (z .2) (part-same (right-part (z .0)) s))
+  live-same (loop i p) z s = live-same p (z .1) (part-same (body-part (z .0)) s)
+  live-same (every i c e p) z s = rw (s .same-at i (stem-own (z .0)))
+  live-same (par i c p q) z s = rw (s .same-at i (fork-own (z .0)), live-same p (z .1) (part-same (left-part (z .0)) s), live-same q (z .2) (part-same (right-part (z .0)) s))
+  live-same (fin i p) z s = rw (s .same-at i (stem-own (z .0)))
+  live-same (canrun i k) z s = absurd z
+  live-same (atLoop i p q) z s = absurd z
+  live-same (atPar i c p q) z s = absurd z
 
 -- ---- nothing runs
 
@@ -155,8 +155,8 @@ module _ {M : Type 0} (o : Ops M) (l : List ℕ) (m : M) where
   par-rests n i c p q x y right fresh e g false = held-rests n i c p x fresh g
 
 module _ {M : Type 0} (o : Ops M) (n : ℕ) where
-  pub still-resume : (t : Tree) (l : List ℕ) (m : M) → still n t l ≡ true → Laid t → resume o n t l m ≡ walk (resting (lives t l)) l m
-  unfolding still resume lives Laid
+  pub still-resume : (t : Tree) (l : List ℕ) (m : M) → still n t l ≡ true → Laid t → resume o n t l m ≡ walk (resting (live t l)) l m
+  unfolding still resume live Laid
   still-resume (nop i) l m e z = refl
   still-resume (act i a v k) l m e z = refl
   still-resume (await i s k) l m e z = own-rests o l m (eqb (getD l i 0) 0) (eqb (getD l i 0) 2) _ (not-woken n (getD l i 0) e)
@@ -164,15 +164,15 @@ module _ {M : Type 0} (o : Ops M) (n : ℕ) where
   still-resume (break i) l m e z = refl
   still-resume (ifvar i v p q) l m e z =
       let f = three (stillAt n (getD l i 0)) (still n p l) (still n q l) e in
-      rw (still-resume p l m (f .1) (z .1)) (if-rests o l m (lives p l) (lives q l) (resume o n q) (still-resume q l m (f .2) (z .2)))
+      rw (still-resume p l m (f .1) (z .1)) (if-rests o l m (live p l) (live q l) (resume o n q) (still-resume q l m (f .2) (z .2)))
   still-resume (seq i p q) l m e z =
       let f = three (stillAt n (getD l i 0)) (still n p l) (still n q l) e in
-      rw (still-resume p l m (f .1) (z .1)) (seq-rests o l m (lives p l) (lives q l) (resume o n q) (exec o n q) (still-resume q l m (f .2) (z .2)))
-  still-resume (loop i p) l m e z = rw (still-resume p l m (two (stillAt n (getD l i 0)) (still n p l) e .1) (z .1)) (loop-rests o l m (lives p l) (exec o n p))
+      rw (still-resume p l m (f .1) (z .1)) (seq-rests o l m (live p l) (live q l) (resume o n q) (exec o n q) (still-resume q l m (f .2) (z .2)))
+  still-resume (loop i p) l m e z = rw (still-resume p l m (two (stillAt n (getD l i 0)) (still n p l) e .1) (z .1)) (loop-rests o l m (live p l) (exec o n p))
   still-resume (every i s k p) l m e z = own-rests o l m (eqb (getD l i 0) 0) (eqb (getD l i 0) 2) _ (not-woken n (getD l i 0) e)
   still-resume (par i c p q) l m e z =
       let f = three (stillAt n (getD l i 0)) (still n p l) (still n q l) e in
-      rw (still-resume p l m (f .1) (z .1)) (par-rests o l m n i c p q (lives p l) (lives q l) (resume o n q) (exec o n q) (still-resume q l m (f .2) (z .2)) (not-turn n (getD l i 0) (f .0)) (eqb (getD l i 0) 0))
+      rw (still-resume p l m (f .1) (z .1)) (par-rests o l m n i c p q (live p l) (live q l) (resume o n q) (exec o n q) (still-resume q l m (f .2) (z .2)) (not-turn n (getD l i 0) (f .0)) (eqb (getD l i 0) 0))
   still-resume (fin i p) l m e z = fin-rests o l m (eqb (getD l i 0) 0)
   still-resume (canrun i k) l m e z = absurd z
   still-resume (atLoop i p q) l m e z = absurd z

@@ -1,6 +1,6 @@
 -- The tree shown as a function of the states: they show one tree at most.
 use mathlib.Core.Path.{_≡_, refl, sym, _∙_}
-use mathlib.Core.Bool.{Bool, true, false, not, _||_}
+use mathlib.Core.Bool.{Bool, true, false, _||_}
 use mathlib.Core.List.{List}
 use Prim.Native.Nat.{ℕ, _+_, _-_}
 use native.Mathlib.Omega.{arith}
@@ -9,29 +9,10 @@ use lib.ListN.{getD}
 use borrow.Author.Tests.{ne-eqb}
 use Rattle.rules.specs.Stages.{if_then_else_}
 use Rattle.rules.specs.Tree.{Tree, act, and, atLoop, atPar, await, break, canrun, emit, every, fin, ifvar, loop, nop, par, seq}
+use Rattle.theory.specs.Still.{live}
 use Rattle.theory.specs.Frame.{Blank, Laid, leaf-own, stem-own, fork-own, part-blank, body-part, left-part, right-part}
 use Rattle.theory.specs.Shows.{Shows, await-waits, await-woken, emit-turn, if-left, if-right, seq-left, seq-right, loop-in, every-waits, every-woken, fin-waits, par-both, and-left, and-right, par-held, and-turn}
 use Rattle.theory.specs.Sweep.{no-zero}
-
-abbrev liveAt : ℕ → List ℕ → Bool
-liveAt i l = not (eqb (getD l i 0) 0)
-
--- something in t is not idle
-unfoldable pub live : Tree → List ℕ → Bool
-live (nop i) l = liveAt i l
-live (act i a v k) l = liveAt i l
-live (await i s e) l = liveAt i l
-live (emit i e y) l = liveAt i l
-live (break i) l = liveAt i l
-live (ifvar i v p q) l = live p l || live q l
-live (seq i p q) l = live p l || live q l
-live (loop i p) l = live p l
-live (every i s e p) l = liveAt i l
-live (par i o p q) l = liveAt i l || (live p l || live q l)
-live (fin i p) l = liveAt i l
-live (canrun i m) l = liveAt i l
-live (atLoop i p q) l = liveAt i l
-live (atPar i o p q) l = liveAt i l
 
 -- of an and or or whose right has started, and of one that waits for its turn; a and b say which parts live
 abbrev viewBoth : Bool → Bool → Tree → Tree → Tree → Tree
@@ -61,11 +42,11 @@ view (atPar i o p q) l = nop i
 
 pub idle-live : (t : Tree) (l : List ℕ) → Laid t → Blank l t → live t l ≡ false
 unfolding live Laid
-idle-live (nop i) l z b = rw (b .zero-at i (leaf-own z))
-idle-live (act i a v k) l z b = rw (b .zero-at i (leaf-own z))
+idle-live (nop i) l z b = refl
+idle-live (act i a v k) l z b = refl
 idle-live (await i s e) l z b = rw (b .zero-at i (leaf-own z))
 idle-live (emit i e y) l z b = rw (b .zero-at i (leaf-own z))
-idle-live (break i) l z b = rw (b .zero-at i (leaf-own z))
+idle-live (break i) l z b = refl
 idle-live (ifvar i v p q) l z b = rw (idle-live p l (z .1) (part-blank (left-part (z .0)) b)) (idle-live q l (z .2) (part-blank (right-part (z .0)) b))
 idle-live (seq i p q) l z b = rw (idle-live p l (z .1) (part-blank (left-part (z .0)) b)) (idle-live q l (z .2) (part-blank (right-part (z .0)) b))
 idle-live (loop i p) l z b = idle-live p l (z .1) (part-blank (body-part (z .0)) b)

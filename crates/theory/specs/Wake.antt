@@ -20,7 +20,7 @@ use Rattle.theory.specs.Big as Big
 use Rattle.theory.specs.Sound.{Sound}
 use Rattle.theory.specs.State.{awake, wakeAt, still, stillAt}
 use Rattle.theory.specs.Still.{all-still, three, two}
-use Rattle.theory.specs.Frame.{Blank, Within, Room, Leaf, Stem, Fork, Laid, within-refl, within-trans, blank-same, room-within, part-blank, part-within, part-room, apart-same, set-here, set-within, set-apart, leaf-own, stem-own, stem-kept, body-part, body-off, fork-own, left-part, right-part, left-right, right-left, left-kept, right-kept}
+use Rattle.theory.specs.Frame.{Blank, Within, Room, Leaf, Stem, Fork, Laid, within-refl, within-trans, blank-same, room-within, part-blank, part-within, part-room, apart-same, set-here, set-within, set-apart, leaf-own, stem-own, stem-kept, body-part, body-off, left-part, right-part, left-right, right-left, left-kept, right-kept}
 use Rattle.theory.specs.Shows.{Shows, await-waits, await-woken, emit-turn, if-left, if-right, seq-left, seq-right, loop-in, every-waits, every-woken, fin-waits, par-both, and-left, and-right, par-held, and-turn, shows-same}
 
 -- ---- a push

@@ -56,7 +56,7 @@ fn awake_one(table: &[u8], i: usize, input: bool, event: usize, st: &mut [u32; L
 }
 
 // What waits for the event at place i and below is woken.
-pub fn awake(table: &[u8], i: usize, input: bool, event: usize, st: &mut [u32; Limits::RECORDS])
+fn awake(table: &[u8], i: usize, input: bool, event: usize, st: &mut [u32; Limits::RECORDS])
     requires { ⌜ Spot (now table) i ⌝ }
     ensures { λ _. ⌜ now (st .exit) ≡ awake (wakes (eventFrom input event)) (treeOf (now (table .entry)) i) (now (st .entry)) ⌝ }
 {
