@@ -24,6 +24,7 @@ use Rattle.acceptance.specs.declared.Checked.{Checked}
 use Rattle.acceptance.specs.declared.Checked.the-variants.{Refused}
 use Rattle.memory.specs.Arrays.{arrays}
 use Rattle.memory.proofs.Standing.{stands-room}
+use Rattle.engine.specs.Parts.{AllWait}
 use Rattle.calls.specs.declared.Answer.{Answer}
 use Rattle.calls.specs.Answers.{Ran, Uncounted, answerRefused, refusalNumber, refusalPlace}
 use Rattle.calls.specs.Holding.{Bytes, Stored}
@@ -36,7 +37,7 @@ module _ (b m : List ℕ) (e : firstRefusal (marksStages b m) ≡ none) where
   pub marks-sized : length m ≡ recordsOf b
   marks-sized = marks-pass b m e .long
 
-  pub marks-low : (j : ℕ) → j < recordsOf b → getD m j 0 < 256
+  pub marks-low : (j : ℕ) → j < recordsOf b → getD m j 0 < 2
   marks-low j h =
       or-cases (eqb (getD m j 0) 0) (eqb (getD m j 0) 1 && mayMark (kindAt b j))
       (λ t. omega (arith, eqb→eq (getD m j 0) 0 t))
@@ -51,7 +52,10 @@ same-answer p q r s t u v = rw (p, q, r, s, t, u, v)
 
 module _ (b room : List ℕ) {k : ℕ} {g : Taken} {st : List ℕ} {v : List ℤ} {o c : List ℕ} {em hi : ℕ} (h : Holds b room k g st v o c em hi) where
   pub held-bytes : (n : ℕ) → n ≡ recordsOf b → Bytes n st
-  held-bytes n e j l = rw (h .shows j (omega arith)) (marks-low b (g .marks) (h .held .marks) j (omega arith))
+  held-bytes n e j l = rw (h .shows j (omega arith)) (omega (arith, marks-low b (g .marks) (h .held .marks) j (omega arith)))
+
+  pub held-waits : AllWait b st
+  held-waits = record { low = λ j l. rw (h .shows j l) (marks-low b (g .marks) (h .held .marks) j l) }
 
   same-vars : v ≡ g .vars
   unfolding arrays

@@ -16,6 +16,7 @@ ghost use Rattle.memory.specs.Arrays.{arrays};
 ghost use Rattle.acceptance.specs.Counts.{announcedOf};
 ghost use Rattle.walks.specs.Listening.{Listens};
 ghost use Rattle.walks.specs.Walks.{Spot, arrayOps};
+ghost use Rattle.engine.specs.Parts.{AllWait};
 ghost use Rattle.engine.specs.Running.{mostRounds, roundOf};
 ghost use Rattle.calls.specs.Answers.{Ran, lent};
 ghost use Rattle.calls.specs.Stages.{runStages};
@@ -63,7 +64,7 @@ fn take_event(
     counts: &mut [u64; 2],
 ) -> Rounded
     requires { ⌜ Spot (now table) 0 ⌝ }
-    requires { ⌜ (steps ≤ mostRounds) × (i < recordsOf (now events)) × Listens (now table) (now awaited) ⌝ }
+    requires { ⌜ (steps ≤ mostRounds) × (i < recordsOf (now events)) × Listens (now table) (now awaited) × AllWait (now table) (now st) ⌝ }
     ensures { λ r. ⌜ roundOf r (now (st .exit)) (arrays (now (held .exit)) (now (out .exit)) (now (counts .exit))) ≡ react arrayOps (treeOf (now (table .entry)) 0) steps (kindAt (now (events .entry)) i) (now (st .entry)) (arrays (set (now (held .entry)) 0 (numberAt (now (events .entry)) i)) (now (out .entry)) (now (counts .entry))) ⌝ }
 {
     held[0] = table::number_at(events, i);

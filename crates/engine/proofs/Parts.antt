@@ -32,7 +32,7 @@ use Rattle.engine.specs.Parts.{idling, rightFree, Rest, Runs, Step, Part
 -- ---- idle states, one after the other
 
 -- a place is the first of those from i on, or behind it
-pub first-or-behind : (k i : ℕ) → i ≤ k → {P : Type 0} → (k ≡ i → P) → (i + 1 ≤ k → P) → P
+first-or-behind : (k i : ℕ) → i ≤ k → {P : Type 0} → (k ≡ i → P) → (i + 1 ≤ k → P) → P
 first-or-behind k i h {P} x y = go (eqb k i) refl
   where
     go : (z : Bool) → eqb k i ≡ z → P

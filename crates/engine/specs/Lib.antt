@@ -1,4 +1,3 @@
 -- What the contracts of resume, blocked and the round are said with.
 pub mod Running
-pub mod Resting
 pub mod Parts

@@ -28,6 +28,10 @@ rightFree b l i j = if ltb (kindAt b i) 17 then idling l (i + 1) (j - (i + 1)) e
 pub record Rest (n : ℕ) (l : List ℕ) (a b : ℕ) : Type 0 where
   pub still-at : (k : ℕ) → a ≤ k → k < b → stillAt n (getD l k 0) ≡ true
 
+-- all of the program is idle or waiting
+pub record AllWait (b l : List ℕ) : Type 0 where
+  pub low : (k : ℕ) → k < recordsOf b → getD l k 0 < 2
+
 -- all of the program that runs stands from one place on and before another
 pub record Runs (b : List ℕ) (n : ℕ) (l : List ℕ) (from to : ℕ) : Type 0 where
   pub before : (k : ℕ) → k < from → k < recordsOf b → stillAt n (getD l k 0) ≡ true

@@ -1,13 +1,10 @@
 // A level is done where nothing is left to run.
 ghost use mathlib.Core.Path.{_≡_};
-ghost use mathlib.Core.Bool.{not, _&&_};
-ghost use Prim.Native.Nat.{_<_, _≤_};
-ghost use lib.Dec.{leb};
+ghost use Prim.Native.Nat.{_≤_};
 ghost use Rattle.theory.specs.State.{stillAt, still};
 ghost use Rattle.table.specs.Places.{treeOf};
 ghost use Rattle.walks.specs.Walks.{Spot};
 ghost use Rattle.engine.specs.Parts.{Rest};
-ghost use Rattle.engine.specs.Resting.{stirring};
 use rules::Limits;
 use table::children_at;
 use table::kind_at;
@@ -53,29 +50,6 @@ fn blocked_part(table: &[u8], i: usize, n: u32, st: &[u32; Limits::RECORDS]) -> 
         return at_rest(st[i], n);
     }
     blocked(table, i, n, st)
-}
-
-fn waits_too(wait: bool, state: u32) -> bool
-    ensures { λ r. ⌜ r ≡ (not (leb 2 state) && wait) ⌝ }
-{
-    if state >= 2 {
-        return false;
-    }
-    wait
-}
-
-// Is every state of the program idle or waiting?
-pub fn all_wait(records: usize, st: &[u32; Limits::RECORDS]) -> bool
-    requires { ⌜ records ≤ 256 ⌝ }
-    ensures { λ r. ⌜ r ≡ not (stirring (now (st .entry)) 0 records) ⌝ }
-{
-    let mut wait = true;
-    let mut i: usize = 0;
-    while i < records {
-        wait = waits_too(wait, st[i]);
-        i += 1;
-    }
-    wait
 }
 
 // The first place that runs at this level, or the number of records.

@@ -1,17 +1,17 @@
 // The round: pushes and pops until level 0, the whole program resumed after each.
 ghost use mathlib.Core.Path.{_≡_};
 ghost use Prim.Native.Nat.{_+_, _≤_, max};
+ghost use Rattle.rules.specs.Step.{internalEvent};
 ghost use Rattle.theory.specs.Round.{turnOf, eventOf, heard, onward, pushed, rounds, react, begin};
 ghost use Rattle.table.specs.Places.{treeOf};
 ghost use Rattle.memory.specs.Arrays.{arrays};
 ghost use Rattle.walks.specs.Listening.{Listens};
-ghost use Rattle.walks.specs.Walks.{Spot, arrayOps, howOf, eventFrom};
-ghost use Rattle.engine.specs.Parts.{Runs};
+ghost use Rattle.walks.specs.Walks.{Spot, arrayOps, howOf};
+ghost use Rattle.engine.specs.Parts.{AllWait, Runs};
 ghost use Rattle.engine.specs.Running.{mostRounds, roundOf};
 use crate::Rounded;
 use crate::climb::climb;
 use crate::part::down;
-use crate::rest::all_wait;
 use crate::rest::behind_last;
 use crate::rest::blocked;
 use crate::rest::first_runs;
@@ -103,10 +103,9 @@ fn onward(
     run_part(table, level, from, to, st, vars, out, counts)
 }
 
-// The same at a level that a push came to. Where all waited before, only those that it woke run.
+// The same at a level that a push of an internal event came to.
 fn pushed(
     table: &[u8],
-    input: bool,
     event: usize,
     level: u32,
     awaited: &[u16; Limits::RECORDS],
@@ -117,15 +116,11 @@ fn pushed(
 ) -> usize
     requires { ⌜ Spot (now table) 0 ⌝ }
     requires { ⌜ (level ≤ mostRounds + 1) × Listens (now table) (now awaited) ⌝ }
-    ensures { λ r. ⌜ heard r (now (st .exit)) (arrays (now (vars .exit)) (now (out .exit)) (now (counts .exit))) ≡ pushed arrayOps (treeOf (now (table .entry)) 0) (eventFrom input event) level (now (st .entry)) (arrays (now (vars .entry)) (now (out .entry)) (now (counts .entry))) ⌝ }
+    ensures { λ r. ⌜ heard r (now (st .exit)) (arrays (now (vars .exit)) (now (out .exit)) (now (counts .exit))) ≡ pushed arrayOps (treeOf (now (table .entry)) 0) (internalEvent event) level (now (st .entry)) (arrays (now (vars .entry)) (now (out .entry)) (now (counts .entry))) ⌝ }
 {
-    let from = heard_from(input, event, awaited);
-    let to = heard_before(input, event, awaited);
-    let calm = all_wait(table.len() / Limits::RECORD_BYTES, st);
-    wake(table, input, event, from, to, st);
-    if calm {
-        return run_part(table, level, from, to, st, vars, out, counts);
-    }
+    let from = heard_from(false, event, awaited);
+    let to = heard_before(false, event, awaited);
+    wake(table, false, event, from, to, st);
     onward(table, level, st, vars, out, counts)
 }
 
@@ -163,12 +158,12 @@ fn rounds(
         level += 1;
         emitted += 1;
         highest = larger(highest, level);
-        event = pushed(table, false, event, level, awaited, st, vars, out, counts);
+        event = pushed(table, event, level, awaited, st, vars, out, counts);
     }
     rounded(false, emitted, highest)
 }
 
-// A reaction to an input event: pushed to level 1.
+// A reaction to an input event, pushed to level 1. All waited before, so that only those run that it woke.
 pub fn react(
     table: &[u8],
     event: usize,
@@ -180,11 +175,14 @@ pub fn react(
     counts: &mut [u64; 2],
 ) -> Rounded
     requires { ⌜ Spot (now table) 0 ⌝ }
-    requires { ⌜ (most ≤ mostRounds) × Listens (now table) (now awaited) ⌝ }
+    requires { ⌜ (most ≤ mostRounds) × Listens (now table) (now awaited) × AllWait (now table) (now st) ⌝ }
     ensures { λ r. ⌜ roundOf r (now (st .exit)) (arrays (now (vars .exit)) (now (out .exit)) (now (counts .exit))) ≡ react arrayOps (treeOf (now (table .entry)) 0) most event (now (st .entry)) (arrays (now (vars .entry)) (now (out .entry)) (now (counts .entry))) ⌝ }
 {
     tick(counts);
-    let first = pushed(table, true, event, 1, awaited, st, vars, out, counts);
+    let from = heard_from(true, event, awaited);
+    let to = heard_before(true, event, awaited);
+    wake(table, true, event, from, to, st);
+    let first = run_part(table, 1, from, to, st, vars, out, counts);
     rounds(table, most, first, awaited, st, vars, out, counts)
 }
 

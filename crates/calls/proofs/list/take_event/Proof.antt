@@ -18,6 +18,6 @@ take-event-spec =
     (λ c κs. c .before .before .before .pre .1 .1)
     (λ c. search needs)
     (λ c κs. c .before .before .before .before .pre .1 .1)
-    (λ c κs. (c .before .before .before .before .before .before .before .before .before .pre .0, (c .before .before .before .before .before .before .before .before .before .pre .1 .0, c .before .before .before .before .before .before .before .before .before .pre .1 .2)))
+    (λ c κs. (c .before .before .before .before .before .before .before .before .before .pre .0, (c .before .before .before .before .before .before .before .before .before .pre .1 .0, c .before .before .before .before .before .before .before .before .before .pre .1 .2, c .before .before .before .before .before .before .before .before .before .pre .1 .3)))
     (λ c. search needs)
     returns)

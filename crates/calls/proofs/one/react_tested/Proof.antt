@@ -7,8 +7,8 @@ use mir.Syntax.{w32}
 use mir.Facts.{toZ-ofZ}
 use Rattle.walks.proofs.Listening.{all-listen}
 use Rattle.calls.proofs.Passed.{passed-spot, passed-steps}
-use Rattle.calls.proofs.Answering.{held-bytes, held-vars, marks-sized}
-use Rattle.calls.proofs.Reacting.{react-answers, react-ready, reacts, ready-few}
+use Rattle.calls.proofs.Answering.{held-bytes, held-vars, held-waits, marks-sized}
+use Rattle.calls.proofs.Reacting.{loaded, react-answers, react-ready, reacts, ready-few}
 use borrow.Author.Needs.{needs}
 use Rattle.calls.proofs.one.react_tested.Statement.{statement}
 use Rattle.calls.proofs.one.react_tested.Tie as tie
@@ -16,7 +16,7 @@ use Rattle.calls.proofs.one.react_tested.Tie as tie
 react-requires : tie.Need-react-requires
 react-requires c κs =
     let k = (react-ready (c .before .before .before .before .before .before .before .before .before .before .before .before .before .before .before .before .args .table .now) (c .before .before .before .before .before .before .before .before .before .before .before .before .before .before .before .before .args .marks .now) (c .before .before .before .before .before .before .before .before .before .before .before .before .before .before .before .before .args .vars .now) (c .before .before .before .before .before .before .before .before .before .before .before .before .before .before .before .before .args .event) (c .before .before .before .before .before .before .before .before .before .before .before .before .before .before .before .before .args .value) (c .before .before .before .before .before .before .before .before .before .before .before .before .before .before .before .before .args .out .now) (c .before .before .before .before .before .before .before .before .before .before .before .before .before .before .before .before .pre .0)) in
-    (passed-spot (c .before .before .before .before .before .before .before .before .before .before .before .before .before .before .before .before .args .table .now) (k .table), (omega (arith, c .before .before .before .before .before .before .before .before .before .before .before .before .before .before .before .before .pre .1, passed-steps (c .before .before .before .before .before .before .before .before .before .before .before .before .before .before .before .before .args .table .now) (k .table)), rw (c .before .before .before .before .before .listen .ensures) (all-listen (c .before .before .before .before .before .before .before .before .before .before .before .before .before .before .before .before .args .table .now) (passed-spot (c .before .before .before .before .before .before .before .before .before .before .before .before .before .before .before .before .args .table .now) (k .table) .small) (replicate 256 0) refl)))
+    (passed-spot (c .before .before .before .before .before .before .before .before .before .before .before .before .before .before .before .before .args .table .now) (k .table), (omega (arith, c .before .before .before .before .before .before .before .before .before .before .before .before .before .before .before .before .pre .1, passed-steps (c .before .before .before .before .before .before .before .before .before .before .before .before .before .before .before .before .args .table .now) (k .table)), rw (c .before .before .before .before .before .listen .ensures) (all-listen (c .before .before .before .before .before .before .before .before .before .before .before .before .before .before .before .before .args .table .now) (passed-spot (c .before .before .before .before .before .before .before .before .before .before .before .before .before .before .before .before .args .table .now) (k .table) .small) (replicate 256 0) refl), rw (c .before .before .before .before .before .before .before .before .before .before .load-marks .ensures) (held-waits (c .before .before .before .before .before .before .before .before .before .before .before .before .before .before .before .before .args .table .now) (c .before .before .before .before .before .before .before .before .before .before .before .before .before .before .before .before .args .out .now) (loaded (c .before .before .before .before .before .before .before .before .before .before .before .before .before .before .before .before .args .table .now) (c .before .before .before .before .before .before .before .before .before .before .before .before .before .before .before .before .args .marks .now) (c .before .before .before .before .before .before .before .before .before .before .before .before .before .before .before .before .args .vars .now) (c .before .before .before .before .before .before .before .before .before .before .before .before .before .before .before .before .args .out .now) k (omega (arith, c .before .before .before .before .before .before .before .before .before .before .before .before .before .before .before .before .good .1 .1 .1 .1 .1 .1 .0)) (replicate 256 0) refl))))
 
 finish-requires : tie.Need-finish-requires
 finish-requires c κs =
