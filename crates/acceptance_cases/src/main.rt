@@ -1,4 +1,5 @@
 // What the check answers for document 01's cases 13, 9, 10 and 11, and for a table that fails each of stages 2 to 5.
+#![tactic(auto)]
 use acceptance::Checked;
 use libc::STDOUT_FILENO;
 

@@ -1,4 +1,5 @@
 // The calls of document 01, for every input: start, react and run_list, without the running totals.
+#![tactic(auto)]
 mod hold;
 mod list;
 mod one;

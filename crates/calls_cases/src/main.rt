@@ -1,5 +1,6 @@
 // Document 01's cases 1 to 12, run through the calls. A line for the start and for each event: steps, emitted, highest level,
 // outputs, `waiting` or `finished`; then name and value of the first output, and the marks.
+#![tactic(auto)]
 use calls::Answer;
 use libc::STDOUT_FILENO;
 

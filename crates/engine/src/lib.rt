@@ -1,4 +1,5 @@
 // A running program, on the states of crate walks: what has begun runs on, in a round of pushes and pops.
+#![tactic(auto)]
 mod climb;
 mod held;
 mod part;

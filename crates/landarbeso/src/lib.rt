@@ -1,4 +1,5 @@
 // The C functions: the calls of document 01, each for every input.
+#![tactic(auto)]
 ghost use Rattle.std.specs.Prelude.{◌≡◌};
 ghost use Rattle.rules.specs.Check as Rules;
 ghost use Rattle.rules.specs.Calls.{start_call, react_call};

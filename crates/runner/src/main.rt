@@ -1,5 +1,6 @@
 // The runner of document 01: reads `program.rec` and `events.rec` in the current folder, starts the program, hands it the
 // events one by one, and prints what it does.
+#![tactic(auto)]
 mod file;
 mod print;
 mod tested;

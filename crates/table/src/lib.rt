@@ -1,4 +1,5 @@
 // What a record of a table says. Each function asks for a place inside the table.
+#![tactic(auto)]
 ghost use Rattle.std.specs.Prelude.{◌≡◌, ◌+◌, ◌<◌, ◌≤◌};
 ghost use Rattle.rules.specs.Limits.{record_bytes};
 ghost use Rattle.rules.specs.Table.{byte_at, kind_at, name_at, span_at, number_at, second_at, records_of};

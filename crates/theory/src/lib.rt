@@ -1,1 +1,2 @@
 // The theorems over the rules stand in specs/.
+#![tactic(auto)]

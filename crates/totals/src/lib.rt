@@ -1,4 +1,5 @@
 // The running totals, lent by the caller: reactions and steps, 64 bits each, stopping at the largest value.
+#![tactic(auto)]
 ghost use Rattle.std.specs.Prelude.{◌≡◌};
 ghost use Rattle.totals.specs.Sum.{add_total, add_totals, Counted};
 
