@@ -14,7 +14,7 @@ use Rattle.rules.specs.Run.{Ran, reaction, start}
 pub record Ended (b : List ℕ) (a : Announced) (r : Ran) : Type 0 where
   -- no rule is left, and not because the run got stuck: level 0, no event pending, the tree @nop or blocked
   pub still : step r.last ≡ none
-  pub ground : r.last.level ≡ 0
+  pub grounded : r.last.level ≡ 0
   pub heard : r.last.pending ≡ none
   pub idles : T (nop_or_blocked 0 r.last.tree)
   -- the marks written from the tree pass stage 8; none is set exactly where the tree is @nop: finished

@@ -97,7 +97,7 @@ module _ (t : Tree) (D : ℕ) (h : Program t) where
           still = e;
           rests = w;
           of = k4.of;
-          live = subst (λ n. Live n (run f d c).last.tree) w.ground k4.live;
+          live = subst (λ n. Live n (run f d c).last.tree) w.grounded k4.live;
           steps = omega (arith, k1.most);
           emitted = omega (arith, k2.most);
           highest = omega (arith, k2.most, k4.high);

@@ -78,7 +78,7 @@ start-done b a k x = run-done b a k 0 (pos 0) (program_of b) x (ready-start k.de
 ends : (b : List ℕ) (a : Announced) → Accepted b a → (r : Ran) → Done (program_of b) a r → Ended b a r
 ends b a k r d = record {
   still = d.still;
-  ground = d.rests.ground;
+  grounded = d.rests.grounded;
   heard = d.rests.heard;
   idles = d.rests.idles;
   fits = passes-again b a k r.last.tree d.of d.live d.rests.idles;

@@ -112,9 +112,9 @@ big (suc f) (suc n) t m c = turn n (resume (suc n) t m).fate (resume (suc n) t m
 
 -- ---- a turn leads on
 
-pub ground : (t : Tree) (m : Memory) → T (nop_or_blocked 0 t) → step (calm_at 0 t m) ≡ none
+pub grounded : (t : Tree) (m : Memory) → T (nop_or_blocked 0 t) → step (calm_at 0 t m) ≡ none
 unfolding step
-ground t m h = rw (idle-stuck 0 m t h)
+grounded t m h = rw (idle-stuck 0 m t h)
 
 pub step-pop : (n : ℕ) (t : Tree) (m : Memory) → T (nop_or_blocked (suc n) t) → step (calm_at (suc n) t m) ≡ some (calm_at n t m)
 step-pop n t m h = rule-is-step (pops refl refl h)
@@ -195,7 +195,7 @@ module _ (p : Tree) (h : Program p) where
 
   -- above level 0 a step is always left
   higher : (n : ℕ) (t : Tree) (m : Memory) (c : Count) → Ok p (calm_at (suc n) t m) c → step (calm_at (suc n) t m) ≡ none → ⊥
-  higher n t m c k e = omega (arith, (ended p (calm_at (suc n) t m) c k e).ground)
+  higher n t m c k e = omega (arith, (ended p (calm_at (suc n) t m) c k e).grounded)
 
   unended : (g n : ℕ) (t : Tree) (m : Memory) (c : Count) → Ok p (calm_at (suc n) t m) c → step (run g (calm_at (suc n) t m) c).last ≡ none → (run g (calm_at (suc n) t m) c).count.steps ≤ c.steps + 0 → ⊥
   unended zero n t m c k e b = higher n t m c k (unfold run in e)
@@ -207,9 +207,9 @@ module _ (p : Tree) (h : Program p) where
 
   pub big-is : (f : ℕ) → Agrees f
   unfolding Agrees big
-  big-is zero g zero t m c k q e b = sym (run-still g (calm_at zero t m) c (ground t m (k.resting refl refl)))
+  big-is zero g zero t m c k q e b = sym (run-still g (calm_at zero t m) c (grounded t m (k.resting refl refl)))
   big-is zero g (suc n) t m c k q e b = absurd (unended g n t m c k e b)
-  big-is (suc f) g zero t m c k q e b = sym (run-still g (calm_at zero t m) c (ground t m (k.resting refl refl)))
+  big-is (suc f) g zero t m c k q e b = sym (run-still g (calm_at zero t m) c (grounded t m (k.resting refl refl)))
   big-is (suc f) g (suc n) t m c k q e b =
       turns f g n t m c (big-is f) k q e b (resume (suc n) t m).fate (resume (suc n) t m) (resume-is (suc n) (omega arith) t k.good k.live m)
 

@@ -191,12 +191,12 @@ choose-none d n false i l c e =
 
 -- a proper end
 pub record AtRest (d : Description) : Type 0 where
-  pub ground : d.level ≡ 0
+  pub grounded : d.level ≡ 0
   pub heard : d.pending ≡ none
   pub idles : T (nop_or_blocked 0 d.tree)
 
 inner-none : (d : Description) (n : ℕ) → d.level ≡ n → d.pending ≡ none → Live n d.tree → (T (loose d.tree) → ⊥) → (d.level ≡ 0 → d.pending ≡ none → T (nop_or_blocked 0 d.tree)) → step_at d n ≡ none → AtRest d
-inner-none d zero e p l c r x = record { ground = e; heard = p; idles = r e p }
+inner-none d zero e p l c r x = record { grounded = e; heard = p; idles = r e p }
 inner-none d (suc n) e p l c r x = absurd (choose-none d n (nop_or_blocked (suc n) d.tree) refl l c x)
 
 split-none : (d : Description) (p : Option Event) → d.pending ≡ p → Live d.level d.tree → (T (loose d.tree) → ⊥) → (d.level ≡ 0 → d.pending ≡ none → T (nop_or_blocked 0 d.tree)) → option (step_at d d.level) (λ v. some (push v d)) p ≡ none → AtRest d

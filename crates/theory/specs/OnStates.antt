@@ -160,7 +160,7 @@ module _ {M : Type 0} (q : Ops M) (R : Counted → M → Type 0) (like : Alike c
       let w = reaction-big b a c m f x e z in
       let d = reaction-ends b a c m f x e z in
       finish b a c l fits (reaction b m x e z) d.idles
-      (subst (λ (s : Ran). RoundIs p l (react counting p o e l (counted (begun x z) 0)) s) (sym w) (react-is b a c l fits m f agree o x e z (subst (λ (s : Ran). s.last.level ≡ 0) w d.ground)))
+      (subst (λ (s : Ran). RoundIs p l (react counting p o e l (counted (begun x z) 0)) s) (sym w) (react-is b a c l fits m f agree o x e z (subst (λ (s : Ran). s.last.level ≡ 0) w d.grounded)))
       (react-same counting q R like p (accepts b a c).ranged o e l (counted (begun x z) 0) n g)
 
   pub start-on-states : StartsOnStates q R
@@ -171,5 +171,5 @@ module _ {M : Type 0} (q : Ops M) (R : Counted → M → Type 0) (like : Alike c
       let w = start-big b a c x ∙ ap (λ (t : Tree). big o 1 t (begun x (pos 0)) one_step) (not-awake p (kp b a c l fits)) in
       let d = start-ends b a c x in
       finish b a c l fits (start b x) d.idles
-      (subst (λ (s : Ran). RoundIs p l (begin counting p o l (counted (begun x (pos 0)) 0)) s) (sym w) (begin-is b a c l fits idle o x (subst (λ (s : Ran). s.last.level ≡ 0) w d.ground)))
+      (subst (λ (s : Ran). RoundIs p l (begin counting p o l (counted (begun x (pos 0)) 0)) s) (sym w) (begin-is b a c l fits idle o x (subst (λ (s : Ran). s.last.level ≡ 0) w d.grounded)))
       (begin-same counting q R like p (accepts b a c).ranged o l (counted (begun x (pos 0)) 0) n g)

@@ -185,6 +185,12 @@ waits-at (par i and p q) k z (and_right h a b) c j t = part_at (right-part z.0) 
 waits-at (par i o p q) k z (par-held {m = m} {u = u} h a b) c j t = absurd (no-low m (both_right (blocked 0 u) (ltb m 0) c))
 waits-at (par i and p q) k z (and-turn {m = m} h a b) c j t = absurd (no-low m c)
 waits-at (fin i p) k z (fin-waits h b) c j t = rw (member-one j i t) (stem-own z.0)
+waits-at (nop _) {u = u} {l = l} k z x6 c j t = elim x6 [ ]
+waits-at (act _ _ _ _) {u = u} {l = l} k z x10 c j t = elim x10 [ ]
+waits-at (break _) {u = u} {l = l} k z x8 c j t = elim x8 [ ]
+waits-at (canrun _ _) {u = u} {l = l} k z _ c j t = elim k [ ]
+waits-at (at_loop _ _ _) {u = u} {l = l} k z _ c j t = elim k [ ]
+waits-at (at_par _ _ _ _) {u = u} {l = l} k z _ c j t = elim k [ ]
 
 module _ (l : List ℕ) (j : ℕ) where
   -- the state at j is the mark that a list of places says
@@ -243,3 +249,9 @@ shows-marks (par i and p q) l k z (and_right {u = u} h a b) c j x = right-marks 
 shows-marks (par i o p q) l k z (par-held {m = m} {u = u} h a b) c j x = absurd (no-low m (both_right (blocked 0 u) (ltb m 0) c))
 shows-marks (par i and p q) l k z (and-turn {m = m} h a b) c j x = absurd (no-low m c)
 shows-marks (fin i p) l k z (fin-waits h b) c j x = waiter l j z.0 h b x
+shows-marks (nop _) {u = u} l k z x7 c j x = elim x7 [ ]
+shows-marks (act _ _ _ _) {u = u} l k z x11 c j x = elim x11 [ ]
+shows-marks (break _) {u = u} l k z x9 c j x = elim x9 [ ]
+shows-marks (canrun _ _) {u = u} l k z _ c j x = elim k [ ]
+shows-marks (at_loop _ _ _) {u = u} l k z _ c j x = elim k [ ]
+shows-marks (at_par _ _ _ _) {u = u} l k z _ c j x = elim k [ ]

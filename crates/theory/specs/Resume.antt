@@ -238,3 +238,9 @@ module _ (t v : ℕ) (tv : t ≡ v + 3) (lv : 1 ≤ v) where
       (dead-left (λ w. resume_held counting t i and p w.how w (exec counting t q)) (idle-resume counting t p l m z.1 a)
       (rw (turn-eq (get_or l i 0) n t v h tv) (turn-go t n (exec counting t q) (Big.resume v q) (execs t v tv lv q k.1 z.2) z.0 r h a b e (eqb n v))))
   resumes (fin i p) k z l r (fin-waits h b) m x e = rw h (stays e refl (fin-waits h b))
+  resumes (nop _) {u = u} k z l r x8 m x e = elim x8 [ ]
+  resumes (act _ _ _ _) {u = u} k z l r x12 m x e = elim x12 [ ]
+  resumes (break _) {u = u} k z l r x10 m x e = elim x10 [ ]
+  resumes (canrun _ _) {u = u} k z l r _ m x e = elim k [ ]
+  resumes (at_loop _ _ _) {u = u} k z l r _ m x e = elim k [ ]
+  resumes (at_par _ _ _ _) {u = u} k z l r _ m x e = elim k [ ]

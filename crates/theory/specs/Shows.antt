@@ -24,7 +24,7 @@ pub data Shows (l : List ℕ) : Tree → Tree → Type 0 where
   and-turn : {i m : ℕ} {p q : Tree} → get_or l i 0 ≡ m + 3 → Blank l p → Blank l q → Shows l (par i and p q) (seq i (canrun i m) q)
 
 -- it depends on t's places only
-pub shows_same : {t u : Tree} {l l' : List ℕ} → Laid t → Same t l l' → Shows l t u → Shows l' t u
+pub shows_same : {l l' : List ℕ} {t u : Tree} → Laid t → Same t l l' → Shows l t u → Shows l' t u
 unfolding Laid
 shows_same z s (await-waits {i = i} e) = await-waits (s.same_at i (leaf-own z) ∙ e)
 shows_same z s (await-woken {i = i} e) = await-woken (s.same_at i (leaf-own z) ∙ e)

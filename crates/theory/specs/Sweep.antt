@@ -230,3 +230,9 @@ sweeps (par i c p q) l k z r (par-held {m = n} h a b) m x e =
 sweeps (par i and p q) l k z r (and-turn {m = n} h a b) m x e =
     rw (h, ne_eqb (n + 3) 0 (no_zero n), idle-sweep counting p (set l i 0) m z.1 (blank-same (set_apart l i 0 (left-off z.0)) a)) (turn-clears z.0 r a b e quiet_nop)
 sweeps (fin i p) l k z r (fin-waits h b) m x e = rw h (fin-clears z.0 r b (settles p k m x e))
+sweeps (nop _) {u = u} l k z r x8 m x q = elim x8 [ ]
+sweeps (act _ _ _ _) {u = u} l k z r x12 m x q = elim x12 [ ]
+sweeps (break _) {u = u} l k z r x10 m x q = elim x10 [ ]
+sweeps (canrun _ _) {u = u} l k z r _ m x q = elim k [ ]
+sweeps (at_loop _ _ _) {u = u} l k z r _ m x q = elim k [ ]
+sweeps (at_par _ _ _ _) {u = u} l k z r _ m x q = elim k [ ]

@@ -108,16 +108,16 @@ module _ (p : Tree) (k : Sound p) (z : Laid p) where
   Prior zero = Unit {0}
   Prior (suc f) = Rounds f
 
-  ground : (f : ℕ) (u : Tree) (x : Memory) (c : Count) → big f 0 u x c ≡ record { last = calm_at 0 u x; count = c }
+  grounded : (f : ℕ) (u : Tree) (x : Memory) (c : Count) → big f 0 u x c ≡ record { last = calm_at 0 u x; count = c }
   unfolding big
-  ground zero u x c = refl
-  ground (suc f) u x c = refl
+  grounded zero u x c = refl
+  grounded (suc f) u x c = refl
 
   pop-go : (f : ℕ) → Prior f → (n : ℕ) {l' : List ℕ} {m : Counted} {u : Tree} {x : Memory} (j : ℕ) (c : Count) {l : List ℕ} → Room p l → Rests l' p u → Came p l c.steps l' m x j → (big f n u x (popped j c)).last.level ≡ 0 →
       RoundIs p l (rounds counting p (suc f) 0 (suc n) c.emitted c.highest l' m) (big f n u x (popped j c))
   unfolding big
   pop-go f prior zero {l'} {m} {u} {x} j c {l} r a w h =
-      subst (λ (s : Ran). RoundIs p l (rounds counting p (suc f) 0 1 c.emitted c.highest l' m) s) (sym (ground f u x (popped j c)))
+      subst (λ (s : Ran). RoundIs p l (rounds counting p (suc f) 0 1 c.emitted c.highest l' m) s) (sym (grounded f u x (popped j c)))
       (subst (λ (y : Round Counted). RoundIs p l y (record { last = calm_at 0 u x; count = popped j c })) (sym (rounds-end counting p f 0 1 c.emitted c.highest l' m refl refl))
       record { grounded = refl; within = w.within; rests = a; memory = w.memory; steps = omega (arith, w.steps); emitted = refl; highest = refl })
   pop-go zero prior (suc n) j c r a w h = absurd (omega arith)

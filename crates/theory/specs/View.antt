@@ -73,6 +73,12 @@ shows-live (par i and p q) l (and_right h a b) = rw h (or-true (live p l) (live 
 shows-live (par i o p q) l (par-held {m = m} h a b) = rw (h, ne_eqb (m + 3) 0 (no_zero m))
 shows-live (par i and p q) l (and-turn {m = m} h a b) = rw (h, ne_eqb (m + 3) 0 (no_zero m))
 shows-live (fin i p) l (fin-waits h b) = rw h
+shows-live (nop _) {u = u} l x'' = elim x'' [ ]
+shows-live (act _ _ _ _) {u = u} l x6 = elim x6 [ ]
+shows-live (break _) {u = u} l x4 = elim x4 [ ]
+shows-live (canrun _ _) {u = u} l x6 = elim x6 [ ]
+shows-live (at_loop _ _ _) {u = u} l x8 = elim x8 [ ]
+shows-live (at_par _ _ _ _) {u = u} l x10 = elim x10 [ ]
 
 less-three : (y m : ℕ) → y ≡ m + 3 → y - 3 ≡ m
 less-three y m e = omega arith
@@ -95,6 +101,12 @@ shows-view (par i and p q) l z (and_right h a b) = rw (h, idle-live p l z.1 a) (
 shows-view (par i o p q) l z (par-held {m = m} h a b) = rw (less-three (get_or l i 0) m h, h, ne_eqb (m + 3) 0 (no_zero m), shows-live p l a, shows-view p l z.1 a)
 shows-view (par i and p q) l z (and-turn {m = m} h a b) = rw (less-three (get_or l i 0) m h, h, ne_eqb (m + 3) 0 (no_zero m), idle-live p l z.1 a)
 shows-view (fin i p) l z (fin-waits h b) = refl
+shows-view (nop _) {u = u} l z x3 = elim x3 [ ]
+shows-view (act _ _ _ _) {u = u} l z x7 = elim x7 [ ]
+shows-view (break _) {u = u} l z x5 = elim x5 [ ]
+shows-view (canrun _ _) {u = u} l z _ = elim z [ ]
+shows-view (at_loop _ _ _) {u = u} l z _ = elim z [ ]
+shows-view (at_par _ _ _ _) {u = u} l z _ = elim z [ ]
 
 -- states show one tree at most
 pub shows-once : (t : Tree) {u v : Tree} (l : List ℕ) → Laid t → Shows l t u → Shows l t v → u ≡ v

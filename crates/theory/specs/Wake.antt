@@ -101,6 +101,12 @@ wakes-shown w (par i and p q) l k z r (and_right h a b) =
 wakes-shown w (par i c p q) l k z r (par-held h a b) = left-wakes w z.0 z.2 b (wakes-shown w p l k.0 z.1 (part_room (left-part z.0) r) a) (λ e x y. par-held (e ∙ h) x y)
 wakes-shown w (par i and p q) l k z r (and-turn h a b) = rw (idle-awake w p l z.1 a, idle-awake w q l z.2 b) record { shows = and-turn h a b; within = within-refl }
 wakes-shown w (fin i p) l k z r (fin-waits h b) = record { shows = fin-waits h b; within = within-refl }
+wakes-shown w (nop _) {u = u} l k z r x5 = elim x5 [ ]
+wakes-shown w (act _ _ _ _) {u = u} l k z r x9 = elim x9 [ ]
+wakes-shown w (break _) {u = u} l k z r x7 = elim x7 [ ]
+wakes-shown w (canrun _ _) {u = u} l k z r _ = elim k [ ]
+wakes-shown w (at_loop _ _ _) {u = u} l k z r _ = elim k [ ]
+wakes-shown w (at_par _ _ _ _) {u = u} l k z r _ = elim k [ ]
 
 -- ---- blocked
 
@@ -161,6 +167,12 @@ module _ (t v : ℕ) (tv : t ≡ v + 3) where
   still-blocked (par i c p q) l k z (par-held {m = n} {u = u} h a b) f = held (still_at t (get_or l i 0)) (still t p l) (still t q l) (blocked v u) (ltb n v) (turned (get_or l i 0) n h ∙ below n f.1.0.1) (still-blocked p l k.0 z.1 a f.0) (idle-still q l z.2 b)
   still-blocked (par i and p q) l k z (and-turn {m = n} h a b) f = held (still_at t (get_or l i 0)) (still t p l) (still t q l) true (ltb n v) (turned (get_or l i 0) n h ∙ below n f.0.1) (idle-still p l z.1 a) (idle-still q l z.2 b)
   still-blocked (fin i p) l k z (fin-waits h b) f = low (get_or l i 0) (omega arith)
+  still-blocked (nop _) {u = u} l k z x5 f = elim x5 [ ]
+  still-blocked (act _ _ _ _) {u = u} l k z x9 f = elim x9 [ ]
+  still-blocked (break _) {u = u} l k z x7 f = elim x7 [ ]
+  still-blocked (canrun _ _) {u = u} l k z _ f = elim k [ ]
+  still-blocked (at_loop _ _ _) {u = u} l k z _ f = elim k [ ]
+  still-blocked (at_par _ _ _ _) {u = u} l k z _ f = elim k [ ]
 
   -- ---- a tree that is still has nothing to run
 
@@ -202,3 +214,9 @@ module _ (t v : ℕ) (tv : t ≡ v + 3) where
       ∙ ap (λ (o : Out). right_f i c u 0 o.fate o) (turn-waits i n q x (no-turn (get_or l i 0) n h f.0))
   still-rests (par i and p q) l (and-turn {m = n} h a b) e x = turn-waits i n q x (no-turn (get_or l i 0) n h (three (still_at t (get_or l i 0)) (still t p l) (still t q l) e).0)
   still-rests (fin i p) l (fin-waits h b) e x = refl
+  still-rests (nop _) {u = u} l x5 e x = elim x5 [ ]
+  still-rests (act _ _ _ _) {u = u} l x9 e x = elim x9 [ ]
+  still-rests (break _) {u = u} l x7 e x = elim x7 [ ]
+  still-rests (canrun _ _) {u = u} l x9 e x = elim x9 [ ]
+  still-rests (at_loop _ _ _) {u = u} l x11 e x = elim x11 [ ]
+  still-rests (at_par _ _ _ _) {u = u} l x13 e x = elim x13 [ ]
