@@ -17,7 +17,7 @@ use Rattle.rules.specs.Check.{announced, refused}
 use Rattle.rules.specs.Marks.{all_zero, marks_stages, may_mark}
 use Rattle.rules.specs.Calls.{Lent, Outcome, Taken, answers, onto, out_bytes, refuse, tested}
 use Rattle.theory.specs.Logic.{both_left, or_cases}
-use Rattle.theory.specs.Accepted.{marks-pass, verdict-refused}
+use Rattle.theory.proofs.Accepted.{marks-pass, verdict-refused}
 use Rattle.acceptance.specs.Verdicts.{verdict_of}
 use Rattle.acceptance.specs.declared.Refusal as Code
 use Rattle.acceptance.specs.declared.Checked.{Checked}

@@ -17,15 +17,15 @@ use Rattle.rules.specs.Memory.{Memory, Output, does, effect}
 use Rattle.rules.specs.Run.{Ran, reaction, start}
 use Rattle.rules.specs.Calls.{Lent, Sent, Taken, Totals, join_run, none_taken, take_event}
 use Rattle.theory.specs.Logic.{both_right}
-use Rattle.theory.specs.Accepted.{accepted-check}
+use Rattle.theory.proofs.Accepted.{accepted-check}
 use Rattle.theory.specs.Demand.{Ended}
-use Rattle.theory.specs.DemandProof.{reaction-ends, start-ends}
-use Rattle.theory.specs.Calls.{Held, start-vars, take-held}
-use Rattle.theory.specs.Follow.{begun}
+use Rattle.theory.proofs.DemandProof.{reaction-ends, start-ends}
+use Rattle.theory.proofs.Calls.{Held, start-vars, take-held}
+use Rattle.theory.proofs.Follow.{begun}
 use Rattle.theory.specs.State.{Counted, counted, counting}
 use Rattle.theory.specs.Round.{Round, begin, react}
 use Rattle.theory.specs.AnyMemory.{Alike}
-use Rattle.theory.specs.OnStates.{OnStates, react-on-states, start-on-states}
+use Rattle.theory.proofs.OnStates.{OnStates, react-on-states, start-on-states}
 use Rattle.table.specs.Places.{tree_of}
 use Rattle.memory.specs.Arrays.{Arrays, arrays}
 use Rattle.memory.specs.Stands.{Stands}

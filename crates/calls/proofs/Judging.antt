@@ -16,7 +16,7 @@ use Rattle.rules.specs.Check.{accepted, announced, check, refused, table_stages,
 use Rattle.rules.specs.Marks.{marks_stages}
 use Rattle.rules.specs.Calls.{room_stage, vars_stage}
 use Rattle.theory.specs.Logic.{clash}
-use Rattle.theory.specs.Accepted.{verdict-refused, verdict-accepted}
+use Rattle.theory.proofs.Accepted.{verdict-refused, verdict-accepted}
 use Rattle.acceptance.specs.Counts.{announced_of}
 use Rattle.acceptance.specs.Verdicts.{verdict_of}
 use Rattle.acceptance.specs.declared.Announced.{Announced}

@@ -13,7 +13,7 @@ use Rattle.rules.specs.Check.{announced, count, deep_loop, deepest, endless_loop
 use Rattle.rules.proofs.Products.{product-bound}
 use Rattle.theory.specs.Stages.{next}
 use Rattle.theory.specs.Walk.{walk-size}
-use Rattle.theory.specs.Accepted.{accepted-check, accepts}
+use Rattle.theory.proofs.Accepted.{accepted-check, accepts}
 use Rattle.table.specs.Places.{Place, tree_of}
 use Rattle.table.specs.Found.{first_of}
 use Rattle.table.proofs.Passed as Table

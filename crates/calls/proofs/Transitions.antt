@@ -12,7 +12,7 @@ use Rattle.rules.specs.Marks.{at_rest}
 use Rattle.rules.specs.Step.{Description, step}
 use Rattle.rules.specs.Run.{Count, Ran, faced, nothing_yet, reaction, run, start, tally}
 use Rattle.rules.specs.Calls.{Lent, Outcome, Sent, answers, join_run, none_taken, react_call, start_call, take_event}
-use Rattle.theory.specs.Calls.{react-fine, start_fine, tested-none}
+use Rattle.theory.proofs.Calls.{react-fine, start_fine, tested-none}
 use Rattle.calls.specs.Answers.{answer_of}
 use Rattle.calls.specs.Stages.{react_stages, start_stages}
 

@@ -19,7 +19,7 @@ use Rattle.rules.specs.Calls.{room_stage, onto}
 use Rattle.rules.specs.Query.{asked, awaited, query_call}
 use Rattle.rules.specs.Remaining.{Remaining, records_for, remaining_call}
 use Rattle.theory.specs.Stages.{first-append}
-use Rattle.theory.specs.Accepted.{accepted-check}
+use Rattle.theory.proofs.Accepted.{accepted-check}
 use Rattle.table.proofs.Passed.{passed, passed-place}
 use Rattle.acceptance.specs.Verdicts.{verdict_of}
 use Rattle.acceptance.specs.declared.Announced.{Announced}

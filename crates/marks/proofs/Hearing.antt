@@ -17,7 +17,7 @@ use Rattle.rules.specs.Table.{kind_at, name_at, program_of, in_kinds_table}
 use Rattle.rules.specs.Marks.{marked, marks_stages, rest_seq, rest_if, rest_loop, rest_par, rest_of, or_nop, at_rest, misfit, par_misfit, misfits}
 use Rattle.rules.specs.Query.{stirs, awaited}
 use Rattle.theory.specs.Marks.{parts}
-use Rattle.theory.specs.Accepted.{fitting}
+use Rattle.theory.proofs.Accepted.{fitting}
 use Rattle.table.specs.Places.{tree_of}
 use Rattle.marks.specs.Awaited.{event_set, heard_by, awaited_set, hears_at, heard_at, lowest_bit}
 use Rattle.marks.proofs.Ranges.{name-range, event-name}

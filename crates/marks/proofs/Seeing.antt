@@ -12,7 +12,7 @@ use Rattle.rules.specs.Stages.{if◌then◌else◌, is_some, failing, refusal, o
 use Rattle.rules.specs.Tree.{Tree, Par, assign, increase, copy, subtract, compare, divide, output, input, internal, and, or}
 use Rattle.rules.specs.Table.{kind_at, span_at, second_at, records_of, program_of}
 use Rattle.rules.specs.Marks.{marked, may_mark, mark_right, marks_stages, rest_seq, rest_if, rest_loop, rest_par, rest_of, misfit, par_misfit, misfits}
-use Rattle.theory.specs.Accepted.{marks-pass}
+use Rattle.theory.proofs.Accepted.{marks-pass}
 use Rattle.table.specs.Kinds.{children_of}
 use Rattle.table.specs.Places.{Place, tree_of, Node, a_nop, an_act, an_await, an_emit, a_break, an_if, a_seq, a_loop, an_every, a_par, a_fin}
 use Rattle.table.proofs.Places.{down, next}

@@ -15,7 +15,7 @@ use Rattle.rules.specs.Limits.{Announced, record_bytes, most_records, most_table
 use Rattle.rules.specs.Table.{Range, nought, anything, up_to63, one_to63, records_of, in_range, in_kinds_table}
 use Rattle.rules.specs.Check.{check, accepted, good_length}
 use Rattle.theory.specs.Logic.{clash, T→true}
-use Rattle.theory.specs.Accepted.{accepts}
+use Rattle.theory.proofs.Accepted.{accepts}
 use Rattle.table.specs.Places.{Place, Shape}
 
 -- stage 1: 1 to 256 records, and no byte more

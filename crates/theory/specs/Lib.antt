@@ -11,7 +11,6 @@ pub mod Measure
 pub mod StepLowers
 pub mod EventAdds
 pub mod ProgramCost
-pub mod Budget
 -- what is left of a program while it runs, and where a run stops
 pub mod Blocked
 pub mod Progress
@@ -21,23 +20,14 @@ pub mod Invariant
 pub mod Again
 pub mod Marks
 pub mod WrittenMarks
-pub mod Ready
--- demand 3: on trees, on tables of bytes
-pub mod DemandOnTrees
+-- demand 3, as statements; on tables of bytes
 pub mod Stages
 pub mod Decode
 pub mod Ranges
 pub mod Walk
-pub mod Accepted
 pub mod Demand
-pub mod DemandProof
-pub mod Back
--- calls and lists
-pub mod Calls
-pub mod Lists
 -- whole runs, on trees
 pub mod Big
-pub mod Follow
 -- the engine's state, one number for each record: what the walks over it do, whatever the memory
 pub mod State
 pub mod Round
@@ -55,5 +45,3 @@ pub mod Still
 pub mod Part
 pub mod Wake
 pub mod Rests
-pub mod Turns
-pub mod OnStates

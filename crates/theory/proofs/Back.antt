@@ -15,7 +15,7 @@ use Rattle.theory.specs.Marks.{spots, kept, waits_o, waits-rest}
 use Rattle.theory.specs.Frame.{Lies, own, left, right, lies}
 use Rattle.theory.specs.WrittenMarks.{bit, written, written-length}
 use Rattle.theory.specs.Decode.{Waiting, markable}
-use Rattle.theory.specs.Accepted.{accepts, marks-pass}
+use Rattle.theory.proofs.Accepted.{accepts, marks-pass}
 
 one : (k j : ℕ) → In k 1 j → j ≡ k
 one k j w = omega (arith, w.above, w.below)

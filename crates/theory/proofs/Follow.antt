@@ -19,10 +19,10 @@ use Rattle.theory.specs.Relation.{Goes}
 use Rattle.theory.specs.Steps.{pushes, pops, inside, rule-is-step}
 use Rattle.theory.specs.RunKeeps.{run-keeps}
 use Rattle.theory.specs.Invariant.{Ok, ok-keeps, idle-stuck, ended}
-use Rattle.theory.specs.Ready.{ready-rest, ready-start}
-use Rattle.theory.specs.DemandOnTrees.{first-ok}
-use Rattle.theory.specs.Accepted.{accepts, fitting}
-use Rattle.theory.specs.DemandProof.{reaction-ends, start-ends}
+use Rattle.theory.proofs.Ready.{ready-rest, ready-start}
+use Rattle.theory.proofs.DemandOnTrees.{first-ok}
+use Rattle.theory.proofs.Accepted.{accepts, fitting}
+use Rattle.theory.proofs.DemandProof.{reaction-ends, start-ends}
 use Rattle.theory.specs.Big.{Fate, ends, breaks, waits, amiss, rings, Out, resume, Chain, c-done, c-step, Over, over, Fallen, fallen, Rung, Meets, resume-is}
 
 -- ---- runs of single steps

@@ -14,7 +14,7 @@ use Rattle.theory.specs.Decode.{Waiting, markable, tree-whole}
 use Rattle.theory.specs.Ranges.{Ranged, tree-ranged}
 use Rattle.theory.specs.Walk.{good-walk, closed-walk, walk-size, walk-emits, walk-deep, walk-outside, walk_inside}
 use Rattle.theory.specs.Again.{Placed}
-use Rattle.theory.specs.DemandOnTrees.{promised}
+use Rattle.theory.proofs.DemandOnTrees.{promised}
 use Rattle.theory.specs.Stages.{next, unless-true, none-fails}
 
 -- what a verdict says of the refusal and the announced numbers that it is made of

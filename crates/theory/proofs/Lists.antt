@@ -13,7 +13,7 @@ use Rattle.rules.specs.Calls.{Lent, Outcome, Sent, Taken, answers, none_taken, r
 use Rattle.rules.specs.Lists.{list_call, list_fails, list_stages, sent_from, take_events}
 use Rattle.theory.specs.Logic.{clash}
 use Rattle.theory.specs.Stages.{first-append}
-use Rattle.theory.specs.Calls.{Fine, Held, held-fine, take-held, none-held, tested-none, enough-vars}
+use Rattle.theory.proofs.Calls.{Fine, Held, held-fine, take-held, none-held, tested-none, enough-vars}
 
 -- the events, taken one after the other
 abbrev pub take_all : List ℕ → List Sent → Taken → Taken

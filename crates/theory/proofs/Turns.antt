@@ -14,7 +14,7 @@ use Rattle.theory.specs.Logic.{clash}
 use Rattle.theory.specs.Program.{Seen, is-nop, is-brk, is-other, seen}
 use Rattle.theory.specs.Big.{Fate, ends, breaks, waits, rings, Out, result}
 use Rattle.theory.specs.Big as Big
-use Rattle.theory.specs.Follow.{big, calm_at, turn, popped, pushed}
+use Rattle.theory.proofs.Follow.{big, calm_at, turn, popped, pushed}
 use Rattle.theory.specs.Sound.{Sound}
 use Rattle.theory.specs.State.{Counted, counting, How, awake, still, resume}
 use Rattle.theory.specs.Round.{turn_of, event_of, Heard, heard, heard_of, Round, onward, rounds, rounds-end, rounds-pop, rounds-push}

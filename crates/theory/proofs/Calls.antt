@@ -19,9 +19,9 @@ use Rattle.theory.specs.Memory.{effect-vars}
 use Rattle.theory.specs.Steps.{Steps, pushes, pops, inside, step-is-rule}
 use Rattle.theory.specs.RunKeeps.{run-keeps}
 use Rattle.theory.specs.Stages.{next, first-append, unless-true}
-use Rattle.theory.specs.Accepted.{accepted-check}
+use Rattle.theory.proofs.Accepted.{accepted-check}
 use Rattle.theory.specs.Demand.{Ended}
-use Rattle.theory.specs.DemandProof.{reaction-ends, start-ends}
+use Rattle.theory.proofs.DemandProof.{reaction-ends, start-ends}
 
 -- ---- the number of variables stays
 

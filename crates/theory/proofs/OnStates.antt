@@ -18,10 +18,10 @@ use Rattle.theory.specs.Logic.{or_cases}
 use Rattle.theory.specs.Again.{member}
 use Rattle.theory.specs.WrittenMarks.{bit, written}
 use Rattle.theory.specs.Decode.{markable}
-use Rattle.theory.specs.Accepted.{Accepted, accepts, marks-pass}
-use Rattle.theory.specs.DemandProof.{reaction-ends, start-ends}
+use Rattle.theory.proofs.Accepted.{Accepted, accepts, marks-pass}
+use Rattle.theory.proofs.DemandProof.{reaction-ends, start-ends}
 use Rattle.theory.specs.Big as Big
-use Rattle.theory.specs.Follow.{begun, big, big_reaction, big_start, one_step, reaction-big, start-big}
+use Rattle.theory.proofs.Follow.{begun, big, big_reaction, big_start, one_step, reaction-big, start-big}
 use Rattle.theory.specs.Sound.{Sound, sound}
 use Rattle.theory.specs.State.{Ops, Counted, counted, counting, exec}
 use Rattle.theory.specs.Round.{Round, begin, event_of, pushed, react, turn_of}
@@ -29,7 +29,7 @@ use Rattle.theory.specs.Frame.{At, Laid, Room, lays}
 use Rattle.theory.specs.Exec.{execs}
 use Rattle.theory.specs.Rests.{Stands, marks-stand, shows-marks, stands_same}
 use Rattle.theory.specs.AnyMemory.{Alike, SameRound, same-round, react-same, begin-same}
-use Rattle.theory.specs.Turns.{Rests, RoundIs, is-over, pushed-is, rounds-is, still-waits, turned}
+use Rattle.theory.proofs.Turns.{Rests, RoundIs, is-over, pushed-is, rounds-is, still-waits, turned}
 
 -- ---- what is promised
 
