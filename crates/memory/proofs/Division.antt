@@ -1,6 +1,6 @@
 -- The quotient towards zero: which one wraps, and that all others fit.
 -- Assumes nothing.
-use Rattle.std.proofs.Common.{◌≡◌, ℕ, zero, suc, ◌+◌, ◌-◌, ◌/◌, ◌^◌, ◌<◌, ◌≤◌, ℤ, pos, negsuc, neg_ℤ, refl, div-le_self, arith, w32, SFits, of_z, eq-eqb, ne_eqb}
+use Rattle.std.proofs.Common.{◌≡◌, ℕ, zero, suc, ◌/◌, ◌^◌, ◌<◌, ◌≤◌, ℤ, pos, negsuc, neg_ℤ, refl, div-le_self, arith, w32, SFits, of_z, eq-eqb, ne_eqb}
 use native.Mathlib.Nat.{div-lt_self}
 use lib.IntN.{+ℤ_idl}
 use lib.Signed.{mag, quot_z}

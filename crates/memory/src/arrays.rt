@@ -20,6 +20,7 @@ fn one_more(counts: &mut [u64; 2], i: usize)
 }
 
 // One step more.
+#[tactic(auto, unfolding(crate::specs::Arrays::arrays, crate::specs::Arrays::tick))]
 pub fn tick(counts: &mut [u64; 2])
     ensures { Ticks counts.old counts.new }
 {
@@ -33,6 +34,7 @@ fn variable(vars: &[i32; Limits::VARIABLES], v: usize) -> i32
     if v < Limits::VARIABLES { vars[v] } else { 0 }
 }
 
+#[tactic(auto, using(crate::proofs::Bits::zero_bits), unfolding(crate::specs::Arrays::arrays, crate::specs::Arrays::is_nonzero))]
 pub fn is_nonzero(vars: &[i32; Limits::VARIABLES], v: usize) -> bool
     ensures { Tests result vars.now v }
 {
@@ -99,6 +101,7 @@ fn operand(kind: u8, number: i32, vars: &[i32; Limits::VARIABLES]) -> i32
 }
 
 // What kinds 1 to 6 make of their variable.
+#[tactic(auto, unfolding(crate::specs::Arrays::new_value))]
 fn new_value(kind: u8, old: i32, other: i32) -> i32
     ensures { result ≡ new_value kind old other }
 {

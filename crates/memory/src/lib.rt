@@ -1,5 +1,6 @@
 // The memory of a running program: numbers of 32 signed bits, and the arrays that hold variables, outputs and counts.
 #![tactic(auto)]
+
 mod arrays;
 mod number;
 
