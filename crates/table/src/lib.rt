@@ -1,5 +1,6 @@
 // What a record of a table says. Each function asks for a place inside the table.
 #![tactic(auto)]
+
 ghost use Rattle.std.specs.Prelude.{◌≡◌, ◌+◌, ◌<◌, ◌≤◌};
 ghost use Rattle.rules.specs.Limits.{record_bytes};
 ghost use Rattle.rules.specs.Table.{byte_at, kind_at, name_at, span_at, number_at, second_at, records_of};
@@ -77,6 +78,7 @@ pub fn second_at(table: &[u8], i: usize) -> usize
 }
 
 // How many children a kind has; 3 for a kind over 19.
+#[tactic(auto, unfolding(crate::specs::Kinds::children_of))]
 pub fn children_of(kind: usize) -> u8
     ensures { (result ≡ children_of kind) × (result ≤ 3) }
 {
