@@ -1,12 +1,13 @@
 // The running totals, lent by the caller: reactions and steps, 64 bits each, stopping at the largest value.
 #![tactic(auto)]
+
 ghost use Rattle.std.specs.Prelude.{◌≡◌};
-ghost use Rattle.totals.specs.Sum.{add_total, add_totals, Counted};
+ghost use Rattle.totals.specs.Sum.{add_total, Counted};
 
 use rules::Limits;
 
 #[repr(C)]
-#[derive(Drop)]
+#[derive(Clone, Copy)]
 pub struct Totals {
     pub reactions: u64,
     pub steps: u64,
@@ -25,7 +26,7 @@ fn add(total: u64, more: u64) -> u64
 
 impl Totals {
     pub fn with(self, reactions: u64, steps: u64) -> Totals
-        ensures { result ≡ add_totals self reactions steps }
+        ensures { Counted self reactions steps result }
     {
         Totals {
             reactions: add(self.reactions, reactions),
