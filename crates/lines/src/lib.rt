@@ -1,5 +1,6 @@
 // What the runner prints, written line by line into a lent buffer, and the events and outputs that it reads.
 #![tactic(auto)]
+
 mod entry;
 mod lines;
 mod put;
