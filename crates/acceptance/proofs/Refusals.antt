@@ -7,7 +7,7 @@ use mathlib.Core.Option.{some}
 use Prim.Native.Nat.{ℕ, zero, suc, ◌+◌, ◌≤◌, ◌<◌, max}
 use native.Mathlib.Omega.{arith}
 use lib.Dec.{T, eqb, leb}
-use borrow.Author.Tests.{not-true, not-false, leb-false}
+use borrow.Author.Tests.{leb-false}
 use Rattle.rules.specs.Stages.{if◌then◌else◌, refusal, first_refusal, failing}
 use Rattle.rules.specs.Limits.{most_loops}
 use Rattle.rules.specs.Table.{span_at, row_at, records_of, span_fits, shape_right, in_kinds_table}
@@ -50,20 +50,20 @@ module _ (b : List ℕ) {y : Bool} (e : y ≡ eqb (span_at b 0) (records_of b)) 
   pub shape-clean : failing (shape_right b (records_of b)) 0 (records_of b) ≡ []
   shape-clean = all_pass_lem (shape_right b (records_of b)) 0 (records_of b) (λ j a l. all-shaped j (omega arith))
 
-  pub passed-both : {x : Bool} → x ≡ good_length b → not x ≡ false → check b ≡ nodes_verdict b
+  pub passed-both : {x : Bool} → x ≡ good_length b → x ≡ true → check b ≡ nodes_verdict b
   unfolding check table_stages first_refusal nodes_verdict
-  passed-both {x} e1 h1 = rw (← e1, not-false x h1, shape-clean, ← stage-3 b shape-clean, found_none (failing (right_at 3 b) 0 (records_of b)) d n)
+  passed-both {x} e1 h1 = rw (← e1, h1, shape-clean, ← stage-3 b shape-clean, found_none (failing (right_at 3 b) 0 (records_of b)) d n)
 
 -- ---- the stages in their order
 module _ (b : List ℕ) where
-  pub refused-1 : {x : Bool} → x ≡ good_length b → not x ≡ true → check b ≡ refused (refusal 1 0)
+  pub refused-1 : {x : Bool} → x ≡ good_length b → x ≡ false → check b ≡ refused (refusal 1 0)
   unfolding check table_stages first_refusal
-  refused-1 {x} e h = rw (← e, not-true x h)
+  refused-1 {x} e h = rw (← e, h)
 
-  module _ {x : Bool} (e1 : x ≡ good_length b) (h1 : not x ≡ false) where
+  module _ {x : Bool} (e1 : x ≡ good_length b) (h1 : x ≡ true) where
     pub refused-2 : {y : Found} → y ≡ first_of (failing (right_at 2 b) 0 (records_of b)) → {p : ℕ} → y ≡ At p → check b ≡ refused (refusal 2 p)
     unfolding check table_stages first_refusal
-    refused-2 e d = rw (← e1, not-false x h1, found-fails (failing (right_at 2 b) 0 (records_of b)) e d)
+    refused-2 e d = rw (← e1, h1, found-fails (failing (right_at 2 b) 0 (records_of b)) e d)
 
     module _ {y : Found} (e2 : y ≡ first_of (failing (right_at 2 b) 0 (records_of b))) (h2 : y ≡ Nothing) where
       clean : failing (shape_right b (records_of b)) 0 (records_of b) ≡ []
@@ -71,11 +71,11 @@ module _ (b : List ℕ) where
 
       pub refused-3 : {z : Found} → z ≡ first_of (failing (right_at 3 b) 0 (records_of b)) → {p : ℕ} → z ≡ At p → check b ≡ refused (refusal 3 p)
       unfolding check table_stages first_refusal
-      refused-3 e d = rw (← e1, not-false x h1, clean, ← stage-3 b clean, found-fails (failing (right_at 3 b) 0 (records_of b)) e d)
+      refused-3 e d = rw (← e1, h1, clean, ← stage-3 b clean, found-fails (failing (right_at 3 b) 0 (records_of b)) e d)
 
       pub passed-3 : {z : Found} → z ≡ first_of (failing (right_at 3 b) 0 (records_of b)) → z ≡ Nothing → check b ≡ nodes_verdict b
       unfolding check table_stages first_refusal nodes_verdict
-      passed-3 e d = rw (← e1, not-false x h1, clean, ← stage-3 b clean, found_none (failing (right_at 3 b) 0 (records_of b)) e d)
+      passed-3 e d = rw (← e1, h1, clean, ← stage-3 b clean, found_none (failing (right_at 3 b) 0 (records_of b)) e d)
 
 -- what the code found of a stage from 4 to 7
 abbrev Finds : List ℕ → ℕ → Found → Type 0
@@ -111,8 +111,8 @@ module _ (b : List ℕ) {x : Found} (e4 : Finds b 4 x) where
 -- ---- what the stages give
 
 -- stage 1: the size
-pub good-size : (b : List ℕ) {x : Bool} → x ≡ good_length b → not x ≡ false → Sized b
-good-size b {x} e h = sized b (sym e ∙ not-false x h)
+pub good-size : (b : List ℕ) {x : Bool} → x ≡ good_length b → x ≡ true → Sized b
+good-size b {x} e h = sized b (sym e ∙ h)
 
 -- stage 2: the shape
 pub shaped : (b : List ℕ) → Sized b → {y : Found} → y ≡ first_of (failing (right_at 2 b) 0 (records_of b)) → y ≡ Nothing → Place b 0

@@ -1,5 +1,6 @@
 // Document 01's check of a table: stages 1 to 7 and the announced numbers.
 #![tactic(auto)]
+
 ghost use Rattle.std.specs.Prelude.{◌≡◌, ◌≤◌, ◌<◌};
 ghost use Rattle.rules.specs.Stages.{refusal};
 ghost use Rattle.rules.specs.Limits.{most_records};

@@ -106,7 +106,7 @@ fn part_may_end(table: &&[u8], i: usize) -> bool
 }
 
 // What stands around a construct.
-#[derive(Drop)]
+#[derive(Clone, Copy, Drop)]
 pub struct Around {
     pub loops: usize,
     pub in_every: bool,
@@ -132,6 +132,7 @@ impl Around {
     }
 
     // What stands around the children of a construct of this kind.
+    #[tactic(auto, unfolding(crate::specs::Walks::inner))]
     pub fn within(self, kind: usize) -> Around
         requires { self.loops < 18446744073709551615 }
         ensures { around_of result ≡ inner kind (around_of self) }
