@@ -34,6 +34,7 @@ fn heard_at(table: &[u8], marks: &[u8], i: usize) -> u64
 }
 
 // The next record; behind an every or a fin the next construct, as what is inside does not wait.
+#[tactic(auto, unfolding(crate::specs::Awaited::next_at))]
 fn next_at(table: &[u8], i: usize) -> usize
     requires { i < records_of table.now }
     ensures { result ≡ next_at table.now i }

@@ -36,6 +36,7 @@ fn other_at(table: &[u8], i: usize, children: u8) -> usize
 }
 
 // What remains of a construct of two parts: the first or the other alone (0, 1), or a construct of this kind.
+#[tactic(auto, unfolding(crate::specs::Rest::head_for))]
 fn head_for(kind: usize, left: usize, right: usize) -> usize
     requires { kind < 20 }
     ensures { (result ≡ head_for kind left right) × (result < 256) }
