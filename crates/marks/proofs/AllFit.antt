@@ -230,9 +230,6 @@ module _ (b m : List ℕ) (i : ℕ) (p : Place b i) (g : get_or m i 0 ≡ 0) {k 
 
 -- ---- all places
 
-pub not-sure : (b m : List ℕ) → LetsPass b m false
-not-sure b m e = clash (cc)
-
 none-fail : (ok : ℕ → Bool) (i n : ℕ) → ((j : ℕ) → i ≤ j → j < i + n → ok j ≡ true) → failing ok i n ≡ []
 unfolding failing
 none-fail ok i zero h = refl

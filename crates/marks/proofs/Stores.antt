@@ -38,8 +38,3 @@ pub record Sums (n : ℕ) : Type 0 where
 
 pub sums : (n : ℕ) → Sums n
 sums n = record { one = omega arith; two = omega arith; three = omega arith; four = omega arith; five = omega arith; six = omega arith; seven = omega arith }
-
--- a record, byte by byte
-pub stored-record : (l : List ℕ) (n a b c d e f g h : ℕ) →
-    set (set (set (set (set (set (set (set l n a) (n + 1) b) (n + 2) c) (n + 3) d) (n + 4) e) (n + 5) f) (n + 6) g) (n + 7) h ≡ sets l n (a ∷ b ∷ c ∷ d ∷ e ∷ f ∷ g ∷ h ∷ [])
-stored-record l n a b c d e f g h = let s = sums n in rw (s.one, s.two, s.three, s.four, s.five, s.six, s.seven)

@@ -1,5 +1,6 @@
 // The waiting marks: stage 8, the events that a program at rest awaits, and the remaining program.
 #![tactic(auto)]
+
 mod fitting;
 mod query;
 mod remaining;

@@ -14,8 +14,7 @@ write_head-requires c =
 pub returns-then-span-eq0 : goal.returns-then-span-eq0
 returns-then-span-eq0 c =
     let known = c.rests_of-rests.ensures in
-    let span = c.wide-span.ensures.0 in
-    (
+    let span = c.wide-span.ensures.0 in (
       span-nothing _ _ _ c.requires.sound known span c.if-span-eq0.true,
       omega arith,
       wrote_nothing _ _ _ c.requires.sound known span c.if-span-eq0.true c.args.out.now c.requires.table_in_bounds c.write_head.ensures,
@@ -28,8 +27,7 @@ write_rest-requires c =
 pub returns : goal.returns
 returns c =
     let known = c.rests_of-rests.ensures in
-    let span = c.wide-span.ensures.0 in
-    (
+    let span = c.wide-span.ensures.0 in (
       span-something _ _ _ c.requires.sound known span c.if-span-eq0.false,
       c.wide-span.ensures.1,
       wrote-something _ _ _ c.requires.sound known span c.if-span-eq0.false c.args.out.now c.requires.table_in_bounds c.write_rest.ensures,
