@@ -10,7 +10,7 @@ use lib.ListN.{get_or}
 use borrow.Author.Tests.{eq-eqb, ne_eqb, eqb-true, eqb-false, lt-ltb, le-ltb, ltb-true, ltb-false}
 use Rattle.rules.specs.Stages.{if◌then◌else◌, failing}
 use Rattle.rules.specs.Table.{kind_at, span_at, second_at, records_of}
-use Rattle.rules.specs.Marks.{marked, may_mark, mark_right}
+use Rattle.rules.specs.Marks.{may_mark, mark_right}
 use Rattle.theory.specs.Logic.{clash}
 use Rattle.table.specs.Kinds.{children_of}
 use Rattle.table.specs.Places.{Place, tree_of}

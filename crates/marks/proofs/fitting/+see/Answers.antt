@@ -1,6 +1,5 @@
 -- What the marks say of a construct, by its kind and its children.
-use Rattle.std.proofs.Common.{◌≤◌, sym, ap, ◌∙◌, arith}
-use Rattle.rules.specs.Table.{kind_at}
+use Rattle.std.proofs.Common.{sym, ap, ◌∙◌, arith}
 use Rattle.table.specs.Kinds.{children_of}
 use Rattle.table.proofs.Places.{down-place}
 use Rattle.marks.proofs.Seeing.{down-spot, next-spot, sees-waiting, sees-leaf, sees-loop, sees_both}

@@ -1,6 +1,6 @@
 -- The event of a marked place as a set.
 use Rattle.std.proofs.Common.{sym}
-use Rattle.marks.proofs.Hearing.{name-fits, hears-nothing, hears-other, hears-name}
+use Rattle.marks.proofs.Hearing.{hears-nothing, hears-other, hears-name}
 use Rattle.marks.proofs.query.heard_at.Goals as goal
 
 pub returns-then-marks-i-ne1 : goal.returns-then-marks-i-ne1

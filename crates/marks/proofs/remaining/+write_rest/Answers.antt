@@ -4,7 +4,7 @@ use Rattle.std.proofs.lemmas.List.Edits.{sets}
 use Rattle.table.proofs.Places.{down-falls}
 use Rattle.marks.specs.Rest.{records_o, rest_records}
 use Rattle.marks.proofs.Resting.{leaf-rests, has-child, first-place, other_place, parts-made}
-use Rattle.marks.proofs.Writing.{first-room, first-only, other-room, other-only, head-room, left-room, left-fits, with-whole, with-other, whole_room, right-room}
+use Rattle.marks.proofs.Writing.{first-room, first-only, other-room, other-only, head-room, left-room, with-whole, with-other, whole_room, right-room}
 use Rattle.marks.proofs.remaining.+write_rest.Goals as goal
 
 pub returns-then-children-eq0 : goal.returns-then-children-eq0
@@ -32,7 +32,7 @@ write_rest-requires t c =
 pub returns-then-head-eq0 : goal.returns-then-head-eq0
 returns-then-head-eq0 t c =
     let parts = parts-made _ _ _ _ c.requires.spot.place c.requires.known (omega arith) c.kind_at-kind.ensures.0 (sym c.if-may_mark.ensures) (λ z. c.if-children-eq0.false (c.children_of-children.ensures.0 ∙ z)) c.other_at-other.ensures c.wide-left.ensures.0 c.wide-right.ensures.0 c.head_for-head.ensures.0 in
-    c.write_rest.ensures ∙ ap (sets c.args.out.now (8 * c.args.at)) (first-only c.requires parts c.if-head-eq0.true)
+    cc (c.write_rest.ensures, first-only c.requires parts c.if-head-eq0.true)
 
 pub write_rest-requires-then-head-eq1 : goal.write_rest-requires-then-head-eq1
 write_rest-requires-then-head-eq1 t c =
@@ -42,7 +42,7 @@ write_rest-requires-then-head-eq1 t c =
 pub returns-then-head-eq1 : goal.returns-then-head-eq1
 returns-then-head-eq1 t c =
     let parts = parts-made _ _ _ _ c.requires.spot.place c.requires.known (omega arith) c.kind_at-kind.ensures.0 (sym c.if-may_mark.ensures) (λ z. c.if-children-eq0.false (c.children_of-children.ensures.0 ∙ z)) c.other_at-other.ensures c.wide-left.ensures.0 c.wide-right.ensures.0 c.head_for-head.ensures.0 in
-    c.write_rest-then-head-eq1.ensures ∙ ap (sets c.args.out.now (8 * c.args.at)) (other-only c.requires parts c.if-head-eq1.true)
+    cc (c.write_rest-then-head-eq1.ensures, other-only c.requires parts c.if-head-eq1.true)
 
 pub write_head-requires : goal.write_head-requires
 write_head-requires t c =

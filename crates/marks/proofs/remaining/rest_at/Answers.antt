@@ -1,5 +1,5 @@
 -- How many records remain, by the construct's kind.
-use Rattle.std.proofs.Common.{◌≡◌, sym, ap, ◌∙◌, arith}
+use Rattle.std.proofs.Common.{sym, ap, ◌∙◌, arith}
 use Rattle.marks.specs.Rest.{span_o, rest_span, span_by}
 use Rattle.marks.proofs.Resting.{span-unmarked, span-marked, leaf-rests, first-place, other_place, span-most, parts-made}
 use Rattle.marks.proofs.remaining.rest_at.Goals as goal
