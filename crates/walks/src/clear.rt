@@ -22,7 +22,7 @@ fn clear_one(i: usize, st: &mut [u32; Limits::RECORDS]) -> bool
 }
 
 // Did anything live there?
-#[cycle(clear_clear_either_clear_par)]
+#[cycle(clear)]
 pub fn clear(
     table: &[u8],
     i: usize,
@@ -54,7 +54,7 @@ pub fn clear(
 }
 
 // Of an if or a sequence one side lives at most.
-#[cycle(clear_clear_either_clear_par)]
+#[cycle(clear)]
 fn clear_either(
     table: &[u8],
     i: usize,
@@ -75,7 +75,7 @@ fn clear_either(
 }
 
 // An and or or: where its right had not started, that is idle.
-#[cycle(clear_clear_either_clear_par)]
+#[cycle(clear)]
 fn clear_par(
     table: &[u8],
     i: usize,

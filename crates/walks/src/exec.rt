@@ -65,7 +65,7 @@ pub fn after_right(
     }
 }
 
-#[cycle(exec_exec_if_exec_par_exec_seq_left_ended)]
+#[cycle(exec)]
 pub fn exec(
     table: &[u8],
     i: usize,
@@ -107,7 +107,7 @@ pub fn exec(
     }
 }
 
-#[cycle(exec_exec_if_exec_par_exec_seq_left_ended)]
+#[cycle(exec)]
 fn exec_if(
     table: &[u8],
     i: usize,
@@ -131,7 +131,7 @@ fn exec_if(
     exec(table, j, n, st, vars, out, counts)
 }
 
-#[cycle(exec_exec_if_exec_par_exec_seq_left_ended)]
+#[cycle(exec)]
 fn exec_seq(
     table: &[u8],
     i: usize,
@@ -163,7 +163,7 @@ fn exec_seq(
 }
 
 // The right starts where the left is blocked; where the left has an event pending, the right waits for its turn.
-#[cycle(exec_exec_if_exec_par_exec_seq_left_ended)]
+#[cycle(exec)]
 fn exec_par(
     table: &[u8],
     i: usize,
@@ -204,7 +204,7 @@ fn exec_par(
 }
 
 // After a left that has ended at once: an or ends with it; of an and the right, at place j, starts.
-#[cycle(exec_exec_if_exec_par_exec_seq_left_ended)]
+#[cycle(exec)]
 fn left_ended(
     table: &[u8],
     j: usize,

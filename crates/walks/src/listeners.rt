@@ -15,6 +15,7 @@ fn further(a: u16, b: u16) -> u16
 }
 
 // The record at place i counts for the event of this key, if it waits for it.
+#[tactic(auto, unfolding(crate::specs::Listening::noted))]
 fn note(waits: bool, key: usize, i: usize, awaited: &mut [u16; Limits::RECORDS])
     requires { i < 256 }
     ensures { awaited.new ≡ noted_if waits key i awaited.old }
@@ -30,6 +31,7 @@ fn note(waits: bool, key: usize, i: usize, awaited: &mut [u16; Limits::RECORDS])
 }
 
 // The record at place i.
+#[tactic(auto, unfolding(crate::specs::Listening::hearing))]
 fn hear(table: &[u8], i: usize, awaited: &mut [u16; Limits::RECORDS])
     requires { (i < records_of table.now) × (records_of table.now ≤ most_records) }
     ensures { awaited.new ≡ hearing table.now i awaited.old }

@@ -11,6 +11,7 @@ use rules::Limits;
 use table::{kind_at, name_at, number_at, second_at};
 
 // Kinds 1 to 7 act; any other kind does nothing.
+#[tactic(auto, unfolding(crate::specs::Walks::leaf_runs))]
 pub(crate) fn run_leaf(
     table: &[u8],
     i: usize,

@@ -12,6 +12,7 @@ use rules::Limits;
 use table::{children_at, kind_at, name_at, second_at};
 
 // Kinds 8 and 15 wait for input, 9 and 16 for internal events.
+#[tactic(auto, unfolding(crate::specs::Walks::waits))]
 pub(crate) fn waits(kind: usize, input: bool) -> bool
     ensures { result ≡ waits kind input }
 {
@@ -22,6 +23,7 @@ pub(crate) fn waits(kind: usize, input: bool) -> bool
 }
 
 // Does a record of this kind and name wait for the event?
+#[tactic(auto, unfolding(crate::specs::Walks::hears))]
 fn hears(kind: usize, name: usize, input: bool, event: usize) -> bool
     ensures { result ≡ hears kind name input event }
 {
@@ -53,7 +55,7 @@ fn awake_one(table: &[u8], i: usize, input: bool, event: usize, st: &mut [u32; L
 }
 
 // What waits for the event at place i and below is woken.
-#[cycle(awake_awake_part)]
+#[cycle(awake)]
 fn awake(table: &[u8], i: usize, input: bool, event: usize, st: &mut [u32; Limits::RECORDS])
     requires { Spot table.now i }
     ensures { st.new ≡ awake (wakes (event_from input event)) (tree_of table.now i) st.old }
@@ -72,7 +74,7 @@ fn awake(table: &[u8], i: usize, input: bool, event: usize, st: &mut [u32; Limit
 }
 
 // The same of a part: one without children takes no walk.
-#[cycle(awake_awake_part)]
+#[cycle(awake)]
 fn awake_part(table: &[u8], i: usize, input: bool, event: usize, st: &mut [u32; Limits::RECORDS])
     requires { Spot table.now i }
     ensures { st.new ≡ awake (wakes (event_from input event)) (tree_of table.now i) st.old }
