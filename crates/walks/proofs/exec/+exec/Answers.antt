@@ -54,7 +54,7 @@ exec_par-returns-in-Idle _ c =
 pub exec_par-returns-in-Ended : goal.exec_par-returns-in-Ended
 exec_par-returns-in-Ended _ c =
     rw (exec-par _ _ c.requires.spot.place _ _ _ c.args.and c.requires.i_value _ (c.exec-left.ensures ∙ exec-memory _ _ _ (c.tick.ensures _ _)))
-    (rw (c.in-Ended.is, ← c.second_at-second.ensures) (c.left_ended.ensures ∙ exec-par-ended c.args.and _ _ _ _ _ _))
+    (rw (c.in-Ended.is, ← c.second_at-second.ensures) (c.left_ended.ensures ∙ exec-par-ended c.args.and c.args.n c.args.i _ _ _ _))
 
 pub exec_par-returns-in-Broke : goal.exec_par-returns-in-Broke
 exec_par-returns-in-Broke _ c =
