@@ -1,5 +1,6 @@
 // The walks that resume and the round are made of, over one state for each record: 0 idle, 1 waiting, 2 woken, 3 + m a turn of level m.
 #![tactic(auto)]
+
 pub mod clear;
 pub mod exec;
 mod listeners;
