@@ -104,9 +104,6 @@ then-right c t e = ap (λ (z : Walk Arrays). then_right array_ops c t z) e
 pub two-ticks : (a b : Arrays) {c : Arrays} → b ≡ tick a → c ≡ tick b → c ≡ tick (tick a)
 two-ticks a b p q = q ∙ ap tick p
 
-pub three-ticks : (a b c : Arrays) {d : Arrays} → b ≡ tick a → c ≡ tick b → d ≡ tick c → d ≡ tick (tick (tick a))
-three-ticks a b c p q r = r ∙ ap tick (q ∙ ap tick p)
-
 -- ---- an and or or whose left has ended at once
 
 pub exec-par-ended : (c : Bool) (n i : ℕ) (p : Tree) (right : Then Arrays) (l : List ℕ) (m : Arrays) → left_ended c right l m ≡ exec_par array_ops n i (par_of c) p ended (walk ended l m) right

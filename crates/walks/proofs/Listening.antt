@@ -137,10 +137,6 @@ module _ (b : List ℕ) (small : records_of b ≤ most_records) where
       go x e true g k u q = let w = listening-has x e (ltb-true e 64 g) (records_of b) a (omega arith) h k u q in (omega (arith, w.0), w.1)
       go x e false g k u q = (omega arith, omega arith)
 
-pub key_below : (x : Bool) (e : ℕ) → e < 64 → key_of x e < 128
-key_below true e h = omega arith
-key_below false e h = omega arith
-
 -- ---- where nobody listens
 
 pub not_so : (y : Bool) → (y ≡ true → ⊥) → y ≡ false

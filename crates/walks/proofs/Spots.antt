@@ -3,7 +3,6 @@
 use mathlib.Core.Path.{◌≡◌, refl}
 use mathlib.Core.Bool.{Bool, true, false}
 use mathlib.Core.List.{List}
-use mathlib.Core.Logic.{inl, inr}
 use Prim.Native.Nat.{ℕ, ◌+◌, ◌*◌, ◌≤◌, ◌<◌}
 use native.Mathlib.Omega.{arith}
 use lib.Dec.{T, leb}
@@ -13,7 +12,7 @@ use Rattle.table.specs.Kinds.{arity, row_of, children_of}
 use Rattle.table.specs.Places.{Place, tree_of}
 use Rattle.table.proofs.Places.{children-from, down-place, down-falls, next_place, next-falls}
 use Rattle.table.proofs.Trees.{tree-kind}
-use Rattle.walks.specs.Walks.{Spot, EitherKind, par_kind, par_of}
+use Rattle.walks.specs.Walks.{Spot, par_kind, par_of}
 
 pub spot-down : (b : List ℕ) (i : ℕ) → Spot b i → 1 ≤ children_of (kind_at b i) → Spot b (i + 1)
 spot-down b i p h = record { place = down-place b i p.place h; small = p.small }
@@ -46,10 +45,6 @@ children k e h = children-from k e h
 pub par-children : (c : Bool) {k : ℕ} → k ≡ par_kind c → 2 ≤ children_of k
 par-children true e = children 17 e tt
 par-children false e = children 18 e tt
-
-pub either-children : {k : ℕ} → EitherKind k → 2 ≤ children_of k
-either-children (inl e) = children 12 e tt
-either-children (inr e) = children 13 e tt
 
 pub no-two : (k : ℕ) → children_of k ≡ 0 → children_of k ≡ 2 → ⊥
 no-two k z e = omega arith
