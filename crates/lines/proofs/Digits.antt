@@ -2,7 +2,7 @@
 -- Assumes nothing.
 use mathlib.Core.Path.{◌≡◌, refl, ap, ◌∙◌}
 use mathlib.Core.Bool.{Bool, true, false}
-use mathlib.Core.List.{[], ◌∷◌, ◌++◌}
+use mathlib.Core.List.{List, [], ◌∷◌, ◌++◌}
 use Prim.Native.Nat.{ℕ, zero, suc, ◌+◌, ◌-◌, ◌/◌, ◌%◌, ◌^◌, ◌≤◌, ◌<◌}
 use native.Mathlib.Omega.{arith}
 use native.Mathlib.Nat.{pow-succ'}
@@ -15,17 +15,20 @@ use mir.Val.{of_z, SFits}
 use Rattle.rules.specs.Stages.{if◌then◌else◌}
 use Rattle.lines.specs.Lines.{ascii, digit, last_digits, decimal, signed_decimal}
 
+else_same : (b : Bool) (x y z : List ℕ) → (b ≡ false → y ≡ z) → (if b then x else y) ≡ (if b then x else z)
+else_same true x y z h = refl
+else_same false x y z h = h refl
+
 -- a further limit changes nothing
 enough : (k j n : ℕ) → n < k → n < j → last_digits k n ≡ last_digits j n
 unfolding last_digits
 enough zero j n h g = absurd (omega arith)
 enough (suc k) zero n h g = absurd (omega arith)
-enough (suc k) (suc j) n h g = go (ltb n 10) refl (λ l. enough k j (n / 10) (omega arith) (omega arith))
-  where
-    go : (b : Bool) → ltb n 10 ≡ b → (10 ≤ n → last_digits k (n / 10) ≡ last_digits j (n / 10)) →
-        (if b then digit n ∷ [] else last_digits k (n / 10) ++ (digit (n % 10) ∷ [])) ≡ (if b then digit n ∷ [] else last_digits j (n / 10) ++ (digit (n % 10) ∷ []))
-    go true e same = refl
-    go false e same = ap (λ ds. ds ++ (digit (n % 10) ∷ [])) (same (ltb-false n 10 e))
+enough (suc k) (suc j) n h g =
+    else_same (ltb n 10) _ _ _
+    (λ e.
+    let m : 10 ≤ n = ltb-false n 10 e in
+    rw (enough k j (n / 10) (omega arith) (omega arith)))
 
 pub one-digit : (n : ℕ) → n < 10 → decimal n ≡ digit n ∷ []
 unfolding decimal last_digits
