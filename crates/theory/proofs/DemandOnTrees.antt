@@ -14,12 +14,12 @@ use Rattle.theory.specs.Program.{Program, Good, emit_count, outputs_outside, out
 use Rattle.theory.specs.Measure.{full_cost, event_cost, tree-full}
 use Rattle.theory.specs.EventAdds.{roused}
 use Rattle.theory.specs.ProgramCost.{program-full, program-adds}
-use Rattle.theory.proofs.Budget.{run_ends, InBudget, budget-keeps, due, emit_weight}
+use Rattle.theory.specs.Budget.{run_ends, InBudget, budget-keeps, due, emit_weight}
 use Rattle.theory.specs.Residue.{Left}
 use Rattle.theory.specs.Progress.{Live}
 use Rattle.theory.specs.Invariant.{Ok, ok-keeps, AtRest, ended, pending_count}
 use Rattle.theory.specs.RunKeeps.{run-keeps}
-use Rattle.theory.proofs.Ready.{Ready}
+use Rattle.theory.specs.Ready.{Ready}
 
 -- how a run r of the program t ends, with the announced numbers a
 pub record Done (t : Tree) (a : Announced) (r : Ran) : Type 0 where

@@ -18,7 +18,7 @@ use Rattle.theory.specs.Again.{member, Unmarked, Clean, clean, Reads}
 use Rattle.theory.specs.Residue.{Left}
 use Rattle.theory.specs.Progress.{Live, live-zero}
 use Rattle.theory.specs.WrittenMarks.{bit, written, written-length, read_again, done-waits, finished-is}
-use Rattle.theory.proofs.Ready.{Ready, ready-rest, ready-start}
+use Rattle.theory.specs.Ready.{Ready, ready-rest, ready-start}
 use Rattle.theory.proofs.DemandOnTrees.{Done, complete}
 use Rattle.theory.specs.Stages.{join, no-stage, true-unless, all_pass_lem}
 use Rattle.theory.proofs.Accepted.{Accepted, accepts, fitting}

@@ -19,7 +19,7 @@ use Rattle.theory.specs.Relation.{Goes}
 use Rattle.theory.specs.Steps.{pushes, pops, inside, rule-is-step}
 use Rattle.theory.specs.RunKeeps.{run-keeps}
 use Rattle.theory.specs.Invariant.{Ok, ok-keeps, idle-stuck, ended}
-use Rattle.theory.proofs.Ready.{ready-rest, ready-start}
+use Rattle.theory.specs.Ready.{ready-rest, ready-start}
 use Rattle.theory.proofs.DemandOnTrees.{first-ok}
 use Rattle.theory.proofs.Accepted.{accepts, fitting}
 use Rattle.theory.proofs.DemandProof.{reaction-ends, start-ends}

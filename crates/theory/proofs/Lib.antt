@@ -1,7 +1,4 @@
 -- Theorems that rest on the statements of specs/Demand.antt and specs/ProgramCost.antt, which wrong versions must make false.
--- what a program costs at most
-pub mod Budget
-pub mod Ready
 -- demand 3: on trees, on tables of bytes
 pub mod DemandOnTrees
 pub mod Accepted

@@ -11,6 +11,7 @@ pub mod Measure
 pub mod StepLowers
 pub mod EventAdds
 pub mod ProgramCost
+pub mod Budget
 -- what is left of a program while it runs, and where a run stops
 pub mod Blocked
 pub mod Progress
@@ -20,6 +21,7 @@ pub mod Invariant
 pub mod Again
 pub mod Marks
 pub mod WrittenMarks
+pub mod Ready
 -- demand 3, as statements; on tables of bytes
 pub mod Stages
 pub mod Decode
