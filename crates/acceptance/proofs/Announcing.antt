@@ -58,12 +58,6 @@ module _ (t : Tally) (h : Counted t) where
   emitted-most : most_emitted t.emits t.deepest ≤ 2304
   emitted-most = omega (arith, product-bound t.emits (t.deepest + 1) 256 9 h.small.emits (omega (arith, h.deep)))
 
-  pub emitted-fits : most_emitted t.emits t.deepest < 4294967296
-  emitted-fits = omega (arith, emitted-most)
-
-  pub level-fits : most_level (most_emitted t.emits t.deepest) < 4294967296
-  level-fits = omega (arith, emitted-most)
-
   pub steps-fits : (n : ℕ) → n ≤ 256 → most_steps n t.deepest (most_emitted t.emits t.deepest) < 4294967296
   steps-fits n l =
       omega (arith, product-bound (5 * n) (t.deepest + 1) 1280 9 (omega arith) (omega (arith, h.deep)), product-bound (1 + most_emitted t.emits t.deepest) (n + 2) 2305 258 (omega (arith, emitted-most)) (omega arith))

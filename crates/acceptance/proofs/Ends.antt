@@ -14,7 +14,7 @@ use Rattle.theory.specs.Logic.{◌also◌}
 use Rattle.table.specs.Kinds.{children_of}
 use Rattle.table.specs.Places.{Place, tree_of}
 use Rattle.table.proofs.Counting.{computed}
-use Rattle.table.proofs.Places.{children-most, over-19, down-place, down-falls, next_place, next-falls}
+use Rattle.table.proofs.Places.{children-most, over-19, next_place, next-falls}
 use Rattle.table.proofs.Trees.{by_kind}
 
 -- whether either is enough, or both are asked
@@ -111,8 +111,5 @@ pub two-children : (b : List ℕ) (i : ℕ) → Place b i → {k : ℕ} → k �
 two-children b i p {k} e h n = rw (← e) (omega (arith, inner-kind k h))
 
 -- what a recursive call asks where the measure m is twice the span
-pub twice-down : (b : List ℕ) (i : ℕ) {m : ℕ} → span_at b i * 2 ≡ m → Place b i → 1 ≤ children_of (kind_at b i) → (span_at b (i + 1) * 2 + 1 < m) × Place b (i + 1)
-twice-down b i e p h = (omega (arith, down-falls b i p h), down-place b i p h)
-
 pub twice-next : (b : List ℕ) (i : ℕ) {m j : ℕ} → span_at b i * 2 ≡ m → Place b i → 2 ≤ children_of (kind_at b i) → j ≡ second_at b i → (span_at b j * 2 < m) × Place b j
 twice-next b i e p h q = rw q (omega (arith, next-falls b i p h), next_place b i p h)

@@ -81,9 +81,6 @@ row-place {b} {e} {i} r l = (first-visits b nothing_around e i r.are l).place
 pub row_next : {b : List ℕ} {e i : ℕ} → Row b e i → i < e → (children_of (kind_at b i) ≡ 1 → ⊥) → Row b e (i + 1)
 row_next {b} {e} {i} r l n = let s = next-visits b nothing_around e i r.are l n in record { visits = s.rest; are = s.after }
 
-pub row-after : {b : List ℕ} {e i : ℕ} → Row b e i → i < e → {j : ℕ} → j ≡ i + span_at b i → Row b e j
-row-after {b} {e} {i} r l q = let s = first-visits b nothing_around e i r.are l in record { visits = s.rest; are = subst (λ j. Visits b nothing_around e j s.rest) (sym q) s.after }
-
 pub row-child : (b : List ℕ) (i : ℕ) → Place b i → children_of (kind_at b i) ≡ 1 → {j : ℕ} → j ≡ i + span_at b i → Row b j (i + 1)
 row-child b i p one q = record { visits = walk nothing_around (tree_of b (i + 1)) ++ []; are = subst (λ j. Visits b nothing_around j (i + 1) (walk nothing_around (tree_of b (i + 1)) ++ [])) (sym q) (child b i p one nothing_around) }
 

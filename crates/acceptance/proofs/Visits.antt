@@ -1,7 +1,7 @@
 -- A walk from a place: the record's own visit, then those of its children.
 -- Assumes nothing.
 use mathlib.Core.Path.{◌≡◌, refl, sym, ap, subst, ◌∙◌}
-use mathlib.Core.Bool.{Bool, true, false, not, ◌&&◌, ◌||◌, and-false, or-false}
+use mathlib.Core.Bool.{Bool, true, false, not, ◌&&◌, ◌||◌, and-false}
 use mathlib.Core.List.{List, ◌∷◌}
 use Prim.Native.Nat.{ℕ, ◌+◌, ◌≤◌}
 use native.Mathlib.Omega.{arith}
@@ -77,11 +77,5 @@ module _ (b : List ℕ) (i : ℕ) {k : ℕ} (e : k ≡ kind_at b i) (a : Around)
       fails-confined l = rw (passes-by, ← plain, h, ← confined, l)
 
       module _ (l : y ≡ false) where
-        pub passes-break : k ≡ 11 → passes (visit_at b a i) ≡ not (eqb a.loops 0)
-        passes-break q = rw (passes-by, ← confined, l, q, or-false (eqb a.loops 0), or-false (eqb a.loops 0))
-
-        pub passes-other : (k ≡ 11 → ⊥) → (k ≡ 14 → ⊥) → passes (visit_at b a i) ≡ true
-        passes-other n m = rw (passes-by, ← confined, l, ne_eqb k 11 n, ne_eqb k 14 m)
-
         pub passes-loop : k ≡ 14 → passes (visit_at b a i) ≡ not (leb most_loops a.loops || may_end (tree_of b (i + 1)))
         passes-loop q = rw (passes-by, ← confined, l, q)
