@@ -47,7 +47,7 @@ returns-then-head-eq1 t c =
 pub write_head-requires : goal.write_head-requires
 write_head-requires t c =
     let parts = parts-made _ _ _ _ c.requires.spot.place c.requires.known (omega arith) c.kind_at-kind.ensures.0 (sym c.if-may_mark.ensures) (λ z. c.if-children-eq0.false (c.children_of-children.ensures.0 ∙ z)) c.other_at-other.ensures c.wide-left.ensures.0 c.wide-right.ensures.0 c.head_for-head.ensures.0 in
-    (head-room c.requires parts c.if-head-eq0.false c.if-head-eq1.false, c.head_for-head.ensures.1, c.wide-span.ensures.1)
+    (head-room c.requires parts c.if-head-eq0.false c.if-head-eq1.false, c.head_for-head.ensures.1, omega arith)
 
 pub write_rest-requires-2 : goal.write_rest-requires-2
 write_rest-requires-2 t c =
