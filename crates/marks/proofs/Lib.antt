@@ -1,5 +1,6 @@
 -- Laws of marks: stage 8; the awaited events; the remaining program.
 pub mod Seeing
+pub mod Arrays
 pub mod AllFit
 pub mod Ranges
 pub mod EventSets
