@@ -19,7 +19,7 @@ fn at_rest(state: u32, n: u32) -> bool
 }
 
 // Blocked, or nothing lives: each state at place i and below rests.
-#[cycle(blocked_blocked_part)]
+#[cycle(blocked)]
 pub fn blocked(table: &[u8], i: usize, n: u32, st: &[u32; Limits::RECORDS]) -> bool
     requires { Spot table.now i }
     ensures { result ≡ still n (tree_of table.now i) st.now }
@@ -41,7 +41,7 @@ pub fn blocked(table: &[u8], i: usize, n: u32, st: &[u32; Limits::RECORDS]) -> b
 }
 
 // The same of a part: one without children takes no walk.
-#[cycle(blocked_blocked_part)]
+#[cycle(blocked)]
 fn blocked_part(table: &[u8], i: usize, n: u32, st: &[u32; Limits::RECORDS]) -> bool
     requires { Spot table.now i }
     ensures { result ≡ still n (tree_of table.now i) st.now }

@@ -62,7 +62,7 @@ fn left_broke(
     How::Broke
 }
 
-#[cycle(if_goes_on_resume_resume_both_resume_if_resume_loop_resume_par_resume_part_resume_seq_seq_goes_on)]
+#[cycle(resume)]
 pub fn resume(
     table: &[u8],
     i: usize,
@@ -93,7 +93,7 @@ pub fn resume(
 }
 
 // A part of an if or a sequence: an idle one without children takes no walk.
-#[cycle(if_goes_on_resume_resume_both_resume_if_resume_loop_resume_par_resume_part_resume_seq_seq_goes_on)]
+#[cycle(resume)]
 fn resume_part(
     table: &[u8],
     i: usize,
@@ -114,7 +114,7 @@ fn resume_part(
     resume(table, i, n, st, vars, out, counts)
 }
 
-#[cycle(if_goes_on_resume_resume_both_resume_if_resume_loop_resume_par_resume_part_resume_seq_seq_goes_on)]
+#[cycle(resume)]
 fn resume_if(
     table: &[u8],
     i: usize,
@@ -133,7 +133,7 @@ fn resume_if(
 }
 
 // After the left of an if.
-#[cycle(if_goes_on_resume_resume_both_resume_if_resume_loop_resume_par_resume_part_resume_seq_seq_goes_on)]
+#[cycle(resume)]
 pub fn if_goes_on(
     table: &[u8],
     i: usize,
@@ -160,7 +160,7 @@ pub fn if_goes_on(
     }
 }
 
-#[cycle(if_goes_on_resume_resume_both_resume_if_resume_loop_resume_par_resume_part_resume_seq_seq_goes_on)]
+#[cycle(resume)]
 fn resume_seq(
     table: &[u8],
     i: usize,
@@ -179,7 +179,7 @@ fn resume_seq(
 }
 
 // After the left of a sequence.
-#[cycle(if_goes_on_resume_resume_both_resume_if_resume_loop_resume_par_resume_part_resume_seq_seq_goes_on)]
+#[cycle(resume)]
 pub fn seq_goes_on(
     table: &[u8],
     i: usize,
@@ -213,7 +213,7 @@ pub fn seq_goes_on(
     }
 }
 
-#[cycle(if_goes_on_resume_resume_both_resume_if_resume_loop_resume_par_resume_part_resume_seq_seq_goes_on)]
+#[cycle(resume)]
 fn resume_loop(
     table: &[u8],
     i: usize,
@@ -263,7 +263,7 @@ pub fn loop_goes_on(
     }
 }
 
-#[cycle(if_goes_on_resume_resume_both_resume_if_resume_loop_resume_par_resume_part_resume_seq_seq_goes_on)]
+#[cycle(resume)]
 fn resume_par(
     table: &[u8],
     i: usize,
@@ -287,7 +287,7 @@ fn resume_par(
 }
 
 // After the left of an and or or whose right has started.
-#[cycle(if_goes_on_resume_resume_both_resume_if_resume_loop_resume_par_resume_part_resume_seq_seq_goes_on)]
+#[cycle(resume)]
 pub fn resume_both(
     table: &[u8],
     i: usize,
