@@ -1,30 +1,20 @@
-use Rattle.std.proofs.Common.{rules, ◌≡◌, ◌+◌, ◌-◌, ◌<◌, get_or, ℕ, ◌*◌, ◌≤◌, length, ◌/◌, ◌%◌, Bool, true, false, nat_eq, nat_lt, List, [], ◌∷◌, ◌++◌, slice_set, bit_and, bit_or, Fits, w8, w32, w64, Bor, MutBor}
-use Rattle.rules.specs.Table.{kind_at, second_at}
-use Rattle.theory.specs.State.{walk, resume}
-use Rattle.theory.specs.Part.{beside, past_left, par_goes_on, goes_on}
-use Rattle.table.specs.Places.{tree_of}
-use Rattle.memory.specs.Arrays.{arrays}
-use Rattle.walks.specs.Walks.{Spot, array_ops, how_of, par_kind, par_of}
-use Rattle.engine.specs.Parts.{Along, Climbs}
-use Rattle.engine.specs.Running.{is_idle}
+-- One construct after the other, until one waits or has an event pending.
+use Rattle.std.proofs.Common.{arith, sym}
+use Rattle.theory.specs.Part.{stays-waiting, stays-ringing}
+use Rattle.engine.proofs.Climbing.{path-stays, climb-step}
 use Rattle.engine.proofs.climb.+climb.Goals as goal
 
--- src/climb.rt:186:1
 pub returns-in-Idle : goal.returns-in-Idle
-returns-in-Idle t c = ?
+returns-in-Idle _ c = rw c.in-Idle.is (climb-step _ _ _ _ (omega arith) c.requires.1 c.step_up-up.ensures c.climb.ensures)
 
--- src/climb.rt:186:1
 pub returns-in-Ended : goal.returns-in-Ended
-returns-in-Ended t c = ?
+returns-in-Ended _ c = rw c.in-Ended.is (climb-step _ _ _ _ (omega arith) c.requires.1 c.step_up-up-in-Ended.ensures c.climb-in-Ended.ensures)
 
--- src/climb.rt:186:1
 pub returns-in-Broke : goal.returns-in-Broke
-returns-in-Broke t c = ?
+returns-in-Broke _ c = rw c.in-Broke.is (climb-step _ _ _ _ (omega arith) c.requires.1 c.step_up-up-in-Broke.ensures c.climb-in-Broke.ensures)
 
--- src/climb.rt:186:1
 pub returns-in-Waiting : goal.returns-in-Waiting
-returns-in-Waiting t c = ?
+returns-in-Waiting _ c = rw c.in-Waiting.is (λ l m w e. sym (path-stays _ _ _ m stays-waiting _ c.requires.1 w (sym e)))
 
--- src/climb.rt:186:1
 pub returns-in-Ringing : goal.returns-in-Ringing
-returns-in-Ringing t c = ?
+returns-in-Ringing _ c = rw c.in-Ringing.is (λ l m w e. sym (path-stays _ _ _ m (stays-ringing _) _ c.requires.1 w (sym e)))

@@ -1,34 +1,26 @@
-use Rattle.std.proofs.Common.{rules, ◌≡◌, ◌+◌, ◌-◌, ◌<◌, get_or, ℕ, ◌*◌, ◌≤◌, length, ◌/◌, ◌%◌, Bool, true, false, nat_eq, nat_lt, List, [], ◌∷◌, ◌++◌, slice_set, bit_and, bit_or, Fits, w8, w32, w64, Bor, MutBor}
-use Rattle.rules.specs.Table.{kind_at, second_at}
-use Rattle.theory.specs.State.{walk, resume}
-use Rattle.theory.specs.Part.{beside, past_left, par_goes_on, goes_on}
-use Rattle.table.specs.Places.{tree_of}
-use Rattle.memory.specs.Arrays.{arrays}
-use Rattle.walks.specs.Walks.{Spot, array_ops, how_of, par_kind, par_of}
-use Rattle.engine.specs.Parts.{Along, Climbs}
-use Rattle.engine.specs.Running.{is_idle}
+-- By the kind of the construct.
+use Rattle.std.proofs.Common.{arith, sym, lt-ltb, le-ltb}
+use Rattle.engine.proofs.Climbing.{goes-on-if, goes-on-seq, goes-on-loop, goes-on-rest}
 use Rattle.engine.proofs.climb.goes_on.Goals as goal
 
--- src/climb.rt:148:17
 pub returns-then-k-second_at : goal.returns-then-k-second_at
-returns-then-k-second_at c = ?
+returns-then-k-second_at c =
+    rw (goes-on-if _ _ c.requires.place _ _ _ (omega arith), lt-ltb _ _ (rw c.second_at.ensures at c.if-k-second_at.true)) c.if_goes_on.ensures
 
--- src/climb.rt:154:17
 pub returns-then-k-second_at-2 : goal.returns-then-k-second_at-2
-returns-then-k-second_at-2 c = ?
+returns-then-k-second_at-2 c =
+    rw (goes-on-seq _ _ c.requires.place _ _ _ (omega arith), lt-ltb _ _ (rw c.second_at-in-13.ensures at c.if-k-second_at-2.true)) c.seq_goes_on.ensures
 
--- src/climb.rt:130:1
 pub returns-else-k-second_at : goal.returns-else-k-second_at
-returns-else-k-second_at c = ?
+returns-else-k-second_at c =
+    rw (goes-on-if _ _ c.requires.place _ _ _ (omega arith), le-ltb _ _ (rw c.second_at.ensures at c.if-k-second_at.false))
 
--- src/climb.rt:130:1
 pub returns-else-k-second_at-2 : goal.returns-else-k-second_at-2
-returns-else-k-second_at-2 c = ?
+returns-else-k-second_at-2 c =
+    rw (goes-on-seq _ _ c.requires.place _ _ _ (omega arith), le-ltb _ _ (rw c.second_at-in-13.ensures at c.if-k-second_at-2.false))
 
--- src/climb.rt:130:1
 pub returns-in-14 : goal.returns-in-14
-returns-in-14 c = ?
+returns-in-14 c = rw (goes-on-loop _ _ c.requires.place _ _ _ (omega arith)) c.loop_goes_on.ensures
 
--- src/climb.rt:130:1
 pub returns-in_default : goal.returns-in_default
-returns-in_default c = ?
+returns-in_default c = sym (goes-on-rest _ _ c.requires.place _ _ _ (λ e. omega arith) (λ e. omega arith) (λ e. omega arith) (λ e. omega arith) (λ e. omega arith))

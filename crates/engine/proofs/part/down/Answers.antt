@@ -1,37 +1,53 @@
-use Rattle.std.proofs.Common.{rules, ◌≡◌, ◌-◌, ◌≤◌, ◌<◌, get_or, length, ℕ, ◌+◌, ◌*◌, ◌/◌, ◌%◌, Bool, true, false, nat_eq, nat_lt, List, [], ◌∷◌, ◌++◌, slice_set, bit_and, bit_or, Fits, w8, w32, w64, Bor, MutBor}
-use Rattle.rules.specs.Table.{records_of}
-use Rattle.walks.specs.Walks.{Spot}
-use Rattle.engine.specs.Parts.{idling, right_free, PartOf, Way}
+-- From part to part, and the places are written down.
+use Rattle.std.proofs.Common.{◌+◌, ◌<◌, arith, ◌∙◌, length-set}
+use lib.Seq.{get_or-set_same}
+use Rattle.engine.specs.Parts.{Step}
+use Rattle.engine.proofs.Parts.{way-none, way_on, part_step}
 use Rattle.engine.proofs.part.down.Goals as goal
+use Rattle.engine.proofs.part.down.Goals.{Else-k-i}
 
--- src/part.rt:65:5
+step : (c : Else-k-i) → Step c.args.table.now c.args.st.now c.args.from c.args.to c.loop-i.i c.part_of-k.result
+step c = part_step _ _ c.part_of-k.ensures c.if-k-i.false
+
+room : (c : Else-k-i) → c.loop-i.steps + 1 < 256
+room c = omega (arith, (step c).below, (step c).place.inside, c.loop-i.invariant.0.small)
+
 pub loop-i-init : goal.loop-i-init
-loop-i-init c = ?
+loop-i-init c = (c.requires.0, omega arith, c.requires.2, c.requires.1, way-none _ _ c.requires.1)
 
--- src/part.rt:66:13
 pub part_of-k-requires : goal.part_of-k-requires
-part_of-k-requires c = ?
+part_of-k-requires c = (c.loop-i.invariant.0, c.loop-i-test.true)
 
--- src/part.rt:68:13
 pub returns-then-k-i : goal.returns-then-k-i
-returns-then-k-i c = ?
+returns-then-k-i c = (omega (arith, c.loop-i.invariant.0.place.inside, c.loop-i.invariant.0.small), c.loop-i.invariant.4)
 
--- src/part.rt:70:9
 pub overflow_add-steps : goal.overflow_add-steps
-overflow_add-steps c = ?
+overflow_add-steps c = omega (arith, room c)
 
--- src/part.rt:71:9
 pub offset_bounds-path-steps : goal.offset_bounds-path-steps
-offset_bounds-path-steps c = ?
+offset_bounds-path-steps c = omega (arith, room c)
 
--- src/part.rt:71:9
 pub bounds-path-steps : goal.bounds-path-steps
-bounds-path-steps c = ?
+bounds-path-steps c = room (goal.at.bounds-path-steps c).Else-k-i
 
--- src/part.rt:65:5
 pub loop-i-preserved : goal.loop-i-preserved
-loop-i-preserved c = ?
+loop-i-preserved c =
+    let s = step (goal.at.loop-i-preserved c).Else-k-i in
+    let r = room (goal.at.loop-i-preserved c).Else-k-i in
+    let p = c.loop-i.path in
+    let d = c.loop-i.steps in
+    (
+    record { place = s.place; small = c.loop-i.invariant.0.small },
+    omega (arith, s.below),
+    length-set p (d + 1) _ ∙ c.loop-i.invariant.2,
+    get_or-set_same p (d + 1) _ 0 (rw c.loop-i.invariant.2 r),
+    way_on c.args.table.now c.args.st.now c.args.from c.args.to p d c.loop-i.i _ (rw c.loop-i.invariant.2 r) c.loop-i.invariant.4 c.loop-i.invariant.3 s
+    )
 
--- src/part.rt:53:1
+pub loop-i-smaller : goal.loop-i-smaller
+loop-i-smaller c =
+    let s = step (goal.at.loop-i-smaller c).Else-k-i in
+    omega (arith, s.below, s.place.inside)
+
 pub returns : goal.returns
-returns c = ?
+returns c = (omega (arith, c.loop-i.invariant.0.place.inside, c.loop-i.invariant.0.small), c.loop-i.invariant.4)

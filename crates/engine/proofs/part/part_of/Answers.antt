@@ -1,17 +1,16 @@
-use Rattle.std.proofs.Common.{rules, ◌≡◌, ◌-◌, ◌≤◌, ◌<◌, get_or, length, ℕ, ◌+◌, ◌*◌, ◌/◌, ◌%◌, Bool, true, false, nat_eq, nat_lt, List, [], ◌∷◌, ◌++◌, slice_set, bit_and, bit_or, Fits, w8, w32, w64, Bor, MutBor}
-use Rattle.rules.specs.Table.{records_of}
-use Rattle.walks.specs.Walks.{Spot}
-use Rattle.engine.specs.Parts.{idling, right_free, PartOf, Way}
+-- The part that holds what runs, if it may run alone.
+use Rattle.std.proofs.Common.{arith, sym, ◌∙◌}
+use mathlib.Core.Logic.{inr}
+use Rattle.walks.proofs.Listening.{part-place}
+use Rattle.engine.proofs.Parts.{near-part, far-part}
 use Rattle.engine.proofs.part.part_of.Goals as goal
 
--- src/part.rt:44:9
 pub returns-then-k-i : goal.returns-then-k-i
-returns-then-k-i c = ?
+returns-then-k-i c = near-part _ _ _ _ _ c.requires.0.place c.requires.1 c.part_with-k.ensures c.if-k-i.true
 
--- src/part.rt:46:8
 pub right_free-requires : goal.right_free-requires
-right_free-requires c = ?
+right_free-requires c =
+    (c.requires.0, omega arith, omega (arith, (part-place _ _ c.requires.0.place c.part_with-k.ensures).inside))
 
--- src/part.rt:47:9
 pub returns-then-right_free : goal.returns-then-right_free
-returns-then-right_free c = ?
+returns-then-right_free c = inr (far-part _ _ _ _ _ c.requires.0.place c.requires.1 c.part_with-k.ensures (omega arith) (sym c.right_free.ensures ∙ c.if-right_free.true))

@@ -1,13 +1,12 @@
-use Rattle.std.proofs.Common.{rules, ◌≡◌, ◌-◌, ◌≤◌, ◌<◌, get_or, length, ℕ, ◌+◌, ◌*◌, ◌/◌, ◌%◌, Bool, true, false, nat_eq, nat_lt, List, [], ◌∷◌, ◌++◌, slice_set, bit_and, bit_or, Fits, w8, w32, w64, Bor, MutBor}
-use Rattle.rules.specs.Table.{records_of}
-use Rattle.walks.specs.Walks.{Spot}
-use Rattle.engine.specs.Parts.{idling, right_free, PartOf, Way}
+-- By the kind: of an if or a sequence the left is looked at, of an and or or its own state.
+use Rattle.std.proofs.Common.{lt-ltb, le-ltb}
+use Rattle.engine.specs.Parts.{right_free}
 use Rattle.engine.proofs.part.right_free.Goals as goal
 
--- src/part.rt:32:9
 pub returns-then-kind_at-lt17 : goal.returns-then-kind_at-lt17
-returns-then-kind_at-lt17 c = ?
+unfolding right_free
+returns-then-kind_at-lt17 c = rw (lt-ltb _ _ (rw c.kind_at.ensures.0 at c.if-kind_at-lt17.true)) c.all_idle.ensures
 
--- src/part.rt:27:1
 pub returns : goal.returns
-returns c = ?
+unfolding right_free
+returns c = rw (le-ltb _ _ (rw c.kind_at.ensures.0 at c.if-kind_at-lt17.false))

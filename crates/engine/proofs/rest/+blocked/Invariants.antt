@@ -1,12 +1,10 @@
-use Rattle.std.proofs.Common.{◌≡◌, ◌≤◌, ℕ, ◌+◌, ◌-◌, ◌*◌, ◌<◌, length}
-use Rattle.theory.specs.State.{still_at, still}
-use Rattle.table.specs.Places.{tree_of}
-use Rattle.walks.specs.Walks.{Spot}
-use Rattle.engine.specs.Parts.{Rest}
+-- Three for each record of the span, and the rank of the function.
+use Rattle.std.proofs.Common.{◌+◌, ◌*◌}
+use Rattle.rules.specs.Table.{span_at}
 use Rattle.engine.proofs.rest.+blocked.Given as goal
 
 abbrev pub decreases-blocked : goal.decreases-blocked
-decreases-blocked l = ?
+decreases-blocked l = span_at l.table.now l.i * 3 + 2
 
 abbrev pub decreases-blocked_part : goal.decreases-blocked_part
-decreases-blocked_part l = ?
+decreases-blocked_part l = span_at l.table.now l.i * 3 + 3

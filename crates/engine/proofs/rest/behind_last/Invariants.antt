@@ -1,13 +1,10 @@
-use Rattle.std.proofs.Common.{◌-◌, ◌≡◌, ◌≤◌, ℕ, ◌+◌, ◌*◌, ◌<◌, length}
-use Rattle.theory.specs.State.{still_at, still}
-use Rattle.table.specs.Places.{tree_of}
-use Rattle.walks.specs.Walks.{Spot}
+-- The states from i on rest.
+use Rattle.std.proofs.Common.{◌-◌, ◌≤◌}
 use Rattle.engine.specs.Parts.{Rest}
 use Rattle.engine.proofs.rest.behind_last.Given as goal
 
 abbrev pub invariant-loop-i : goal.invariant-loop-i
-invariant-loop-i l = ?
+invariant-loop-i l = (l.i ≤ l.records) × Rest l.n l.st l.i l.records
 
--- proposed from the loop's first test
 abbrev pub decreases-loop-i : goal.decreases-loop-i
 decreases-loop-i l = l.i - l.from

@@ -1,22 +1,15 @@
-use Rattle.std.proofs.Common.{rules, ◌≡◌, ◌≤◌, ℕ, ◌+◌, ◌-◌, ◌*◌, ◌<◌, length, ◌/◌, ◌%◌, Bool, true, false, nat_eq, nat_lt, List, [], ◌∷◌, ◌++◌, slice_index_or, slice_set, bit_and, bit_or, Fits, w8, w32, w64, Bor, MutBor}
-use Rattle.theory.specs.State.{still_at, still}
-use Rattle.table.specs.Places.{tree_of}
-use Rattle.walks.specs.Walks.{Spot}
-use Rattle.engine.specs.Parts.{Rest}
+use Rattle.std.proofs.Common.{arith, sym, ◌∙◌}
+use Rattle.engine.proofs.Parts.{rest-none, rest-on}
 use Rattle.engine.proofs.rest.first_runs.Goals as goal
 
--- src/rest.rt:61:5
 pub loop-i-init : goal.loop-i-init
-loop-i-init c = ?
+loop-i-init c = (omega arith, rest-none)
 
--- src/rest.rt:63:13
 pub returns-then-not-at_rest : goal.returns-then-not-at_rest
-returns-then-not-at_rest c = ?
+returns-then-not-at_rest c = (omega arith, c.loop-i.invariant.1)
 
--- src/rest.rt:61:5
 pub loop-i-preserved : goal.loop-i-preserved
-loop-i-preserved c = ?
+loop-i-preserved c = (omega arith, rest-on c.loop-i.invariant.1 (sym c.at_rest.ensures ∙ c.if-not-at_rest.false))
 
--- src/rest.rt:56:1
 pub returns : goal.returns
-returns c = ?
+returns c = (omega arith, record { still-at = λ k x y. c.loop-i.invariant.1.still-at k x (omega arith) })

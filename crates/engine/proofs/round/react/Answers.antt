@@ -1,18 +1,15 @@
-use Rattle.std.proofs.Common.{rules, ◌≡◌, ◌+◌, ◌≤◌, max, ℕ, ◌-◌, ◌*◌, ◌<◌, length, ◌/◌, ◌%◌, Bool, true, false, nat_eq, nat_lt, List, [], ◌∷◌, ◌++◌, slice_index_or, slice_set, bit_and, bit_or, Fits, w8, w32, w64, Bor, MutBor}
-use Rattle.rules.specs.Step.{internal_event}
-use Rattle.theory.specs.Round.{turn_of, event_of, heard, onward, pushed, rounds, react, begin}
-use Rattle.table.specs.Places.{tree_of}
-use Rattle.memory.specs.Arrays.{arrays}
-use Rattle.walks.specs.Listening.{Listens}
-use Rattle.walks.specs.Walks.{Spot, array_ops, how_of}
-use Rattle.engine.specs.Parts.{AllWait, Runs}
-use Rattle.engine.specs.Running.{most_rounds, round_of}
+-- Those that wait for the event are woken and run, then the rounds.
+use Rattle.std.proofs.Common.{true, arith}
+use Rattle.theory.specs.Round.{pushed, react}
+use Rattle.walks.specs.Listening.{Hear}
+use Rattle.engine.proofs.Resting.{woken-runs}
 use Rattle.engine.proofs.round.react.Goals as goal
 
--- src/round.rt:181:9
 pub run_part-first-requires-clause-level_bound : goal.run_part-first-requires-clause-level_bound
-run_part-first-requires-clause-level_bound c = ?
+run_part-first-requires-clause-level_bound c =
+    let hear : Hear c.args.table.now true c.args.event c.heard_from-from.result c.heard_before-to.result = rw (c.heard_from-from.ensures, c.heard_before-to.ensures) (c.requires.most_le_most_rounds.1.counted true c.args.event) in
+    (omega arith, rw c.wake.ensures (woken-runs c.args.table.now c.args.st.now true c.args.event c.heard_from-from.result c.heard_before-to.result c.requires.spot.place {n = 4} (omega arith) c.requires.most_le_most_rounds.2 hear))
 
--- src/round.rt:163:1
 pub returns : goal.returns
-returns c = ?
+unfolding pushed react
+returns c = rw (← c.tick.ensures _ _, ← c.wake.ensures, ← c.run_part-first.ensures) c.rounds.ensures

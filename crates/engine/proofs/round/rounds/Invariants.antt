@@ -1,17 +1,15 @@
-use Rattle.std.proofs.Common.{◌≡◌, ◌+◌, ◌≤◌, max, ℕ, ◌-◌, ◌*◌, ◌<◌, length}
-use Rattle.rules.specs.Step.{internal_event}
-use Rattle.theory.specs.Round.{turn_of, event_of, heard, onward, pushed, rounds, react, begin}
+-- What is left to do gives what the whole gives; the level and the events emitted are at most the turns taken.
+use Rattle.std.proofs.Common.{◌≡◌, ◌+◌, ◌≤◌}
+use Rattle.theory.specs.Round.{rounds}
 use Rattle.table.specs.Places.{tree_of}
 use Rattle.memory.specs.Arrays.{arrays}
-use Rattle.walks.specs.Listening.{Listens}
-use Rattle.walks.specs.Walks.{Spot, array_ops, how_of}
-use Rattle.engine.specs.Parts.{AllWait, Runs}
-use Rattle.engine.specs.Running.{most_rounds, round_of}
+use Rattle.walks.specs.Walks.{array_ops}
 use Rattle.engine.proofs.round.rounds.Given as goal
 
 abbrev pub invariant-loop-left : goal.invariant-loop-left
-invariant-loop-left l = ?
+invariant-loop-left l =
+    (1 ≤ l.level) × (l.level + l.left ≤ l.most + 1) × (l.emitted + l.left ≤ l.most)
+    × (rounds array_ops (tree_of l.table 0) l.left l.event l.level l.emitted l.highest l.st (arrays l.vars l.out l.counts) ≡ rounds array_ops (tree_of l.table 0) l.most l.first 1 0 1 l.fn.st (arrays l.fn.vars l.fn.out l.fn.counts))
 
--- proposed from the loop's first test
 abbrev pub decreases-loop-left : goal.decreases-loop-left
 decreases-loop-left l = l.left

@@ -1,26 +1,20 @@
-use Rattle.std.proofs.Common.{rules, ◌≡◌, ◌+◌, ◌≤◌, max, ℕ, ◌-◌, ◌*◌, ◌<◌, length, ◌/◌, ◌%◌, Bool, true, false, nat_eq, nat_lt, List, [], ◌∷◌, ◌++◌, slice_index_or, slice_set, bit_and, bit_or, Fits, w8, w32, w64, Bor, MutBor}
-use Rattle.rules.specs.Step.{internal_event}
-use Rattle.theory.specs.Round.{turn_of, event_of, heard, onward, pushed, rounds, react, begin}
-use Rattle.table.specs.Places.{tree_of}
-use Rattle.memory.specs.Arrays.{arrays}
-use Rattle.walks.specs.Listening.{Listens}
-use Rattle.walks.specs.Walks.{Spot, array_ops, how_of}
-use Rattle.engine.specs.Parts.{AllWait, Runs}
-use Rattle.engine.specs.Running.{most_rounds, round_of}
+-- The part at the end of the way runs, then what stands above it; where nothing runs, or the part is blocked, so is the program.
+use Rattle.std.proofs.Common.{◌∙◌, sym}
+use Rattle.engine.proofs.Parts.{way-along, way-path, none_runs}
+use Rattle.engine.proofs.Climbing.{path-still, onward-blocked, onward-climbs}
 use Rattle.engine.proofs.round.run_part.Goals as goal
 
--- src/round.rt:69:9
 pub returns-then-to-from : goal.returns-then-to-from
-returns-then-to-from c = ?
+returns-then-to-from c =
+    sym (onward-blocked _ _ _ _ (none_runs c.args.table.now c.args.st.now _ _ _ c.requires.spot.place c.requires.level_bound.1 c.if-to-from.true))
 
--- src/round.rt:76:9
 pub returns-then-blocked : goal.returns-then-blocked
-returns-then-blocked c = ?
+returns-then-blocked c =
+    sym (onward-blocked _ _ _ _ (path-still c.args.table.now _ _ _ (way-path c.args.table.now c.args.st.now _ _ _ c.requires.level_bound.1 c.down-steps.ensures.1) (sym c.blocked.ensures ∙ c.if-blocked.true)))
 
--- src/round.rt:79:9
 pub climb-end-requires : goal.climb-end-requires
-climb-end-requires c = ?
+climb-end-requires c = (c.down-steps.ensures.0, way-along c.args.table.now c.args.st.now _ _ c.requires.spot c.down-steps.ensures.1)
 
--- src/round.rt:54:1
 pub returns : goal.returns
-returns c = ?
+returns c =
+    onward-climbs _ _ c.requires.spot _ _ (c.climb-end.ensures _ _ (way-path c.args.table.now c.args.st.now _ _ _ c.requires.level_bound.1 c.down-steps.ensures.1) c.resume-how.ensures) c.event_of.ensures
