@@ -2,9 +2,6 @@ use Rattle.std.proofs.Common.{sym, ◌∙◌, refl, arith}
 use Rattle.engine.proofs.Parts.{idling-here, idling-past, idling-over}
 use Rattle.engine.proofs.part.all_idle.Goals as goal
 
-pub loop-i-init : goal.loop-i-init
-loop-i-init c = (omega arith, omega arith, refl)
-
 pub returns-then-st-i-ne0 : goal.returns-then-st-i-ne0
 returns-then-st-i-ne0 c = sym (idling-here _ _ _ (omega arith) c.if-st-i-ne0.true) ∙ c.loop-i.invariant.2
 

@@ -12,21 +12,6 @@ step c = part_step _ _ c.part_of-k.ensures c.if-k-i.false
 room : (c : Else-k-i) → c.loop-i.steps + 1 < 256
 room c = omega (arith, (step c).below, (step c).place.inside, c.loop-i.invariant.0.small)
 
-pub loop-i-init : goal.loop-i-init
-loop-i-init c = (c.requires.0, omega arith, c.requires.2, c.requires.1, way-none _ _ c.requires.1)
-
-pub part_of-k-requires : goal.part_of-k-requires
-part_of-k-requires c = (c.loop-i.invariant.0, c.loop-i-test.true)
-
-pub returns-then-k-i : goal.returns-then-k-i
-returns-then-k-i c = (omega (arith, c.loop-i.invariant.0.place.inside, c.loop-i.invariant.0.small), c.loop-i.invariant.4)
-
-pub overflow_add-steps : goal.overflow_add-steps
-overflow_add-steps c = omega (arith, room c)
-
-pub offset_bounds-path-steps : goal.offset_bounds-path-steps
-offset_bounds-path-steps c = omega (arith, room c)
-
 pub bounds-path-steps : goal.bounds-path-steps
 bounds-path-steps c = room (goal.at.bounds-path-steps c).Else-k-i
 
@@ -48,6 +33,3 @@ pub loop-i-smaller : goal.loop-i-smaller
 loop-i-smaller c =
     let s = step (goal.at.loop-i-smaller c).Else-k-i in
     omega (arith, s.below, s.place.inside)
-
-pub returns : goal.returns
-returns c = (omega (arith, c.loop-i.invariant.0.place.inside, c.loop-i.invariant.0.small), c.loop-i.invariant.4)

@@ -40,6 +40,3 @@ blocked-returns _ c =
 pub blocked_part-returns-then-children_at-eq0 : goal.blocked_part-returns-then-children_at-eq0
 blocked_part-returns-then-children_at-eq0 _ c =
     c.at_rest.ensures ∙ sym (still-leaf _ _ c.requires.place _ _ (sym c.children_at.ensures.0 ∙ c.if-children_at-eq0.true))
-
-pub blocked_part-blocked-requires : goal.blocked_part-blocked-requires
-blocked_part-blocked-requires _ c = (omega (arith, c.decreases), c.requires)

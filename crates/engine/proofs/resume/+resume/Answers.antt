@@ -9,26 +9,11 @@ use Rattle.engine.proofs.resume.+resume.Goals as goal
 
 -- ---- resume
 
-pub resume-resume_if-requires : goal.resume-resume_if-requires
-resume-resume_if-requires _ c = (omega (arith, c.decreases), (c.requires, omega arith))
-
-pub resume-resume_seq-requires : goal.resume-resume_seq-requires
-resume-resume_seq-requires _ c = (omega (arith, c.decreases), (c.requires, omega arith))
-
-pub resume-resume_loop-requires : goal.resume-resume_loop-requires
-resume-resume_loop-requires _ c = (omega (arith, c.decreases), (c.requires, omega arith))
-
 pub resume-resume_every-requires-clause-bound : goal.resume-resume_every-requires-clause-bound
 resume-resume_every-requires-clause-bound _ c = children 15 (omega arith) tt
 
 pub resume-resume_every-requires-in-16-clause-bound : goal.resume-resume_every-requires-in-16-clause-bound
 resume-resume_every-requires-in-16-clause-bound _ c = children 16 (omega arith) tt
-
-pub resume-resume_par-requires : goal.resume-resume_par-requires
-resume-resume_par-requires _ c = (omega (arith, c.decreases), (c.requires, omega arith))
-
-pub resume-resume_par-requires-in-18 : goal.resume-resume_par-requires-in-18
-resume-resume_par-requires-in-18 _ c = (omega (arith, c.decreases), (c.requires, omega arith))
 
 pub resume-returns-in-8 : goal.resume-returns-in-8
 resume-returns-in-8 _ c = rw (resume-await _ _ c.requires.place _ _ _ input (omega arith)) (c.resume_await.ensures _)
@@ -55,16 +40,10 @@ resume-returns-in_default _ c =
 pub resume_part-returns-then-st-i-eq0 : goal.resume_part-returns-then-st-i-eq0
 resume_part-returns-then-st-i-eq0 _ c = sym (resume-idle _ _ c.requires.place _ _ _ (sym c.children_at.ensures.0 ∙ c.if-children_at-eq0.true) c.if-st-i-eq0.true)
 
-pub resume_part-resume-requires : goal.resume_part-resume-requires
-resume_part-resume-requires _ c = (omega (arith, c.decreases), c.requires)
-
 -- ---- if and sequence
 
 pub resume_if-resume_part-how-requires : goal.resume_if-resume_part-how-requires
 resume_if-resume_part-how-requires _ c = down-above _ _ c.requires.spot (omega (arith, c.decreases)) (children 12 c.requires.i_value tt)
-
-pub resume_if-if_goes_on-requires : goal.resume_if-if_goes_on-requires
-resume_if-if_goes_on-requires _ c = (omega (arith, c.decreases), (c.requires.spot, c.requires.i_value))
 
 pub resume_if-returns : goal.resume_if-returns
 resume_if-returns _ c = rw (resume-if _ _ c.requires.spot.place _ _ _ c.requires.i_value, ← c.resume_part-how.ensures) c.if_goes_on.ensures
@@ -74,9 +53,6 @@ if_goes_on-resume-requires _ c = next _ _ c.requires.spot (omega (arith, c.decre
 
 pub resume_seq-resume_part-how-requires : goal.resume_seq-resume_part-how-requires
 resume_seq-resume_part-how-requires _ c = down-above _ _ c.requires.spot (omega (arith, c.decreases)) (children 13 c.requires.i_value tt)
-
-pub resume_seq-seq_goes_on-requires : goal.resume_seq-seq_goes_on-requires
-resume_seq-seq_goes_on-requires _ c = (omega (arith, c.decreases), (c.requires.spot, c.requires.i_value))
 
 pub resume_seq-returns : goal.resume_seq-returns
 resume_seq-returns _ c = rw (resume-seq _ _ c.requires.spot.place _ _ _ c.requires.i_value, ← c.resume_part-how.ensures) c.seq_goes_on.ensures
@@ -96,9 +72,6 @@ resume_loop-returns _ c = rw (resume-loop _ _ c.requires.spot.place _ _ _ c.requ
 
 pub resume_par-resume-how-requires : goal.resume_par-resume-how-requires
 resume_par-resume-how-requires _ c = down _ _ c.requires.spot (omega (arith, c.decreases)) (omega (arith, par-children c.args.and c.requires.i_value))
-
-pub resume_par-resume_both-requires : goal.resume_par-resume_both-requires
-resume_par-resume_both-requires _ c = (omega (arith, c.decreases), (c.requires.spot, c.requires.i_value))
 
 pub resume_par-returns-then-held-eq0 : goal.resume_par-returns-then-held-eq0
 resume_par-returns-then-held-eq0 _ c =

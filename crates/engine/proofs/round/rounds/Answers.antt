@@ -2,31 +2,13 @@ use Rattle.std.proofs.Common.{arith, refl, ◌∙◌}
 use Rattle.engine.proofs.Rounds.{none_left, end_step, pop_step, push_step}
 use Rattle.engine.proofs.round.rounds.Goals as goal
 
-pub loop-left-init : goal.loop-left-init
-loop-left-init c = (omega arith, omega arith, omega arith, refl)
-
 pub returns-then-level-eq1 : goal.returns-then-level-eq1
 returns-then-level-eq1 c =
     rw (c.rounded.ensures.0, c.rounded.ensures.1, c.rounded.ensures.2) (end_step _ _ _ _ _ _ _ _ _ c.loop-left-test.true (c.tick.ensures _ _) c.if-event-eq0.true c.if-level-eq1.true ∙ c.loop-left.invariant.3)
 
-pub overflow_sub-level : goal.overflow_sub-level
-overflow_sub-level c = omega arith
-
-pub onward-event-requires-clause-level_bound : goal.onward-event-requires-clause-level_bound
-onward-event-requires-clause-level_bound c = omega arith
-
 pub loop-left-preserved-then-event-eq0 : goal.loop-left-preserved-then-event-eq0
 loop-left-preserved-then-event-eq0 c =
     (omega arith, omega arith, omega arith, pop_step _ _ _ _ _ _ _ _ _ c.loop-left-test.true (c.tick.ensures _ _) _ _ _ c.if-event-eq0.true c.if-level-eq1.false c.onward-event.ensures ∙ c.loop-left.invariant.3)
-
-pub overflow_add-level : goal.overflow_add-level
-overflow_add-level c = omega arith
-
-pub overflow_add-emitted : goal.overflow_add-emitted
-overflow_add-emitted c = omega arith
-
-pub pushed-event-requires-clause-level_bound : goal.pushed-event-requires-clause-level_bound
-pushed-event-requires-clause-level_bound c = (omega arith, c.requires.most_le_most_rounds.1)
 
 pub loop-left-preserved : goal.loop-left-preserved
 loop-left-preserved c =
