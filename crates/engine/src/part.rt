@@ -24,6 +24,7 @@ pub fn all_idle(from: usize, to: usize, st: &[u32; Limits::RECORDS]) -> bool
 }
 
 // May the right of the construct at place i, at place j, run alone?
+#[tactic(auto, unfolding(crate::specs::Parts::right_free))]
 fn right_free(table: &[u8], i: usize, j: usize, st: &[u32; Limits::RECORDS]) -> bool
     requires { Spot table.now i × (i < j) × (j ≤ records_of table.now) }
     ensures { result ≡ right_free table.now st.now i j }

@@ -100,6 +100,7 @@ fn onward(
 }
 
 // The same at a level that a push of an internal event came to.
+#[tactic(auto, unfolding(theory::specs::Round::pushed))]
 fn pushed(
     table: &[u8],
     event: usize,
@@ -183,6 +184,7 @@ pub fn react(
 }
 
 // A start: the program itself begins at level 1.
+#[tactic(auto, unfolding(theory::specs::Round::begin))]
 pub fn begin(
     table: &[u8],
     most: u32,

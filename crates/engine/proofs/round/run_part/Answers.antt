@@ -12,6 +12,9 @@ pub returns-then-blocked : goal.returns-then-blocked
 returns-then-blocked c =
     sym (onward-blocked _ _ _ _ (path-still c.args.table.now _ _ _ (way-path c.args.table.now c.args.st.now _ _ _ c.requires.level_bound.1 c.down-steps.ensures.1) (sym c.blocked.ensures ∙ c.if-blocked.true)))
 
+pub climb-end-requires : goal.climb-end-requires
+climb-end-requires c = (c.down-steps.ensures.0, way-along c.args.table.now c.args.st.now _ _ c.requires.spot c.down-steps.ensures.1)
+
 pub returns : goal.returns
 returns c =
     onward-climbs _ _ c.requires.spot _ _ (c.climb-end.ensures _ _ (way-path c.args.table.now c.args.st.now _ _ _ c.requires.level_bound.1 c.down-steps.ensures.1) c.resume-how.ensures) c.event_of.ensures
