@@ -1,5 +1,6 @@
 // A running program, on the states of crate walks: what has begun runs on, in a round of pushes and pops.
 #![tactic(auto)]
+
 mod climb;
 mod held;
 mod part;

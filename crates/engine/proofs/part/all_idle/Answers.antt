@@ -1,4 +1,4 @@
-use Rattle.std.proofs.Common.{sym, ◌∙◌, refl, arith}
+use Rattle.std.proofs.Common.{sym, ◌∙◌, arith}
 use Rattle.engine.proofs.Parts.{idling-here, idling-past, idling-over}
 use Rattle.engine.proofs.part.all_idle.Goals as goal
 

@@ -1,5 +1,5 @@
 use Rattle.std.proofs.Common.{arith, sym, ◌∙◌}
-use Rattle.engine.proofs.Parts.{rest_over, rest_back}
+use Rattle.engine.proofs.Parts.{rest_back}
 use Rattle.engine.proofs.rest.behind_last.Goals as goal
 
 pub loop-i-preserved : goal.loop-i-preserved

@@ -1,5 +1,5 @@
 use Rattle.std.proofs.Common.{arith, sym, ◌∙◌}
-use Rattle.engine.proofs.Parts.{rest-none, rest-on}
+use Rattle.engine.proofs.Parts.{rest-on}
 use Rattle.engine.proofs.rest.first_runs.Goals as goal
 
 pub loop-i-preserved : goal.loop-i-preserved

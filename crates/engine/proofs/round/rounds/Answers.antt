@@ -1,4 +1,4 @@
-use Rattle.std.proofs.Common.{arith, refl, ◌∙◌}
+use Rattle.std.proofs.Common.{arith, ◌∙◌}
 use Rattle.engine.proofs.Rounds.{none_left, end_step, pop_step, push_step}
 use Rattle.engine.proofs.round.rounds.Goals as goal
 
