@@ -1,19 +1,18 @@
 -- The constructs above a part that has run: what each makes of it, and the whole program at the end.
 -- Assumes nothing.
 use mathlib.Core.Path.{◌≡◌, refl, sym, ap, ◌∙◌}
-use mathlib.Core.Bool.{Bool, true, false}
+use mathlib.Core.Bool.{Bool, true}
 use mathlib.Core.List.{List}
 use Prim.Native.Nat.{ℕ, zero, suc, ◌+◌, ◌-◌, ◌<◌}
 use native.Mathlib.Omega.{arith}
 use lib.Dec.{ltb}
 use lib.ListN.{get_or}
 use Rattle.rules.specs.Stages.{if◌then◌else◌}
-use Rattle.rules.specs.Tree.{Tree, Par, and, or}
+use Rattle.rules.specs.Tree.{Tree, and, or}
 use Rattle.rules.specs.Table.{kind_at, second_at}
-use Rattle.theory.specs.Logic.{clash}
-use Rattle.theory.specs.State.{How, idle, ended, broke, waiting, ringing, Walk, walk, then_right, exec, resume_if, resume_seq, resume_loop, resume, still}
+use Rattle.theory.specs.State.{How, Walk, walk, exec, resume_if, resume_seq, resume_loop, resume, still}
 use Rattle.theory.specs.Round.{turn_of, event_of, heard, heard_of, onward}
-use Rattle.theory.specs.Part.{onward-runs, Stays, beside, past_left, par_goes_on, goes_on, part-still, part-goes-on, part_stays}
+use Rattle.theory.specs.Part.{onward-runs, Stays, past_left, par_goes_on, goes_on, part-still, part-goes-on, part_stays}
 use Rattle.table.specs.Places.{Place, tree_of, Node, a_nop, an_act, an_await, an_emit, a_break, an_if, a_seq, a_loop, an_every, a_par, a_fin}
 use Rattle.table.proofs.Places.{next_place}
 use Rattle.table.proofs.Trees.{node_at, tree-kind}
@@ -21,7 +20,6 @@ use Rattle.table.proofs.Laid.{place_at, laid-at}
 use Rattle.memory.specs.Arrays.{Arrays}
 use Rattle.walks.specs.Walks.{Spot, array_ops, par_kind, par_of}
 use Rattle.walks.proofs.Spots.{children, par-children, tree-par}
-use Rattle.engine.specs.Running.{is_idle}
 use Rattle.engine.specs.Parts.{Along, Path, Climbs}
 
 -- ---- by the kind of the construct
@@ -65,29 +63,6 @@ module _ (b : List ℕ) (i : ℕ) (p : Place b i) (n k : ℕ) (r : Walk Arrays) 
       go (a_par or e) = absurd (n8 e)
       go (a_fin e) = refl
 
--- ---- beside a left that rests
-
-pub beside-idle : (c : Par) (p : Tree) (h : How) (r : Walk Arrays) → is_idle h ≡ true → r ≡ beside array_ops c p h r
-beside-idle c p idle r e = refl
-beside-idle c p ended r e = clash (cc)
-beside-idle c p broke r e = clash (cc)
-beside-idle c p waiting r e = clash (cc)
-beside-idle c p (ringing v) r e = clash (cc)
-
-pub beside-live : (c : Par) (p : Tree) (h : How) (r : Walk Arrays) → is_idle h ≡ false → then_right array_ops c p r ≡ beside array_ops c p h r
-beside-live c p idle r e = clash (cc)
-beside-live c p ended r e = refl
-beside-live c p broke r e = refl
-beside-live c p waiting r e = refl
-beside-live c p (ringing v) r e = refl
-
--- the left is asked after the right has run; h is how the right was left
-pub past-ended : (c : Par) (p : Tree) (r : Walk Arrays) {s : Walk Arrays} → r ≡ s → beside array_ops c p r.how (walk ended r.states r.memory) ≡ beside array_ops c p s.how (walk ended s.states s.memory)
-past-ended c p r e = ap (λ (x : Walk Arrays). beside array_ops c p x.how (walk ended x.states x.memory)) e
-
-pub past-broke : (c : Par) (p : Tree) (r : Walk Arrays) {s : Walk Arrays} → r ≡ s → beside array_ops c p r.how (walk broke r.states r.memory) ≡ beside array_ops c p s.how (walk broke s.states s.memory)
-past-broke c p r e = ap (λ (x : Walk Arrays). beside array_ops c p x.how (walk broke x.states x.memory)) e
-
 -- ---- along the way
 
 module _ (b : List ℕ) (n : ℕ) (path : List ℕ) where
@@ -123,12 +98,6 @@ module _ (b : List ℕ) (n : ℕ) (path : List ℕ) where
       let only = rw y at (z.each d (omega arith)) in
       let k = part-goes-on array_ops n l m only (laid-at b (get_or path d 0) (a d (omega arith)).place) in
       rw q at c l m (path-less d z) ((rw q at u) ∙ rw e (sym (k ∙ ap (λ (j : ℕ). goes_on array_ops n j (resume array_ops n (tree_of b (get_or path (suc d) 0)) l m) (tree_of b (get_or path d 0))) (place_at b (get_or path (suc d) 0) (a (suc d) (omega arith)).place))))
-
-  pub climb-none : (d : ℕ) → d ≡ 0 → (w : Walk Arrays) → Climbs b path d n w w
-  climb-none d z w l m x e = rw (z, x.root) at e
-
-  pub along-fewer : (d : ℕ) → Along b path d → Along b path (d - 1)
-  along-fewer d a e h = a e (omega arith)
 
 -- ---- the round
 

@@ -11,7 +11,7 @@ use borrow.Author.Tests.{eq-eqb}
 use Rattle.rules.specs.Stages.{if◌then◌else◌}
 use Rattle.rules.specs.Tree.{Tree, Source, input, internal, and, or, by_source}
 use Rattle.rules.specs.Table.{kind_at, second_at}
-use Rattle.theory.specs.State.{idle, Walk, walk, exec, exec_loop, resume, resume_await, resume_fin, resume_every, resume_emit, resume_if, resume_seq, resume_loop, right_alone, resume_both, resume_held}
+use Rattle.theory.specs.State.{idle, walk, exec, resume, resume_await, resume_fin, resume_every, resume_emit, resume_if, resume_seq, resume_loop, resume_both, resume_held}
 use Rattle.table.specs.Kinds.{arity, row_of, children_of}
 use Rattle.table.specs.Places.{Place, tree_of, Node, a_nop, an_act, an_await, an_emit, a_break, an_if, a_seq, a_loop, an_every, a_par, a_fin}
 use Rattle.table.proofs.Trees.{tree-kind, node_at}
@@ -101,11 +101,3 @@ module _ (b : List ℕ) (i : ℕ) (p : Place b i) (l : List ℕ) (m : Arrays) (n
       go (a_par and e) = absurd (has 17 e tt)
       go (a_par or e) = absurd (has 18 e tt)
       go (a_fin e) = absurd (has 19 e tt)
-
--- ---- what a fate is read of, for an equal run
-
-pub exec-loop-run : (r : Walk Arrays) {q : Walk Arrays} → r ≡ q → exec_loop array_ops r.how r ≡ exec_loop array_ops q.how q
-exec-loop-run r e = ap (λ (x : Walk Arrays). exec_loop array_ops x.how x) e
-
-pub right-alone-run : (r : Walk Arrays) {q : Walk Arrays} → r ≡ q → right_alone array_ops r.how r ≡ right_alone array_ops q.how q
-right-alone-run r e = ap (λ (x : Walk Arrays). right_alone array_ops x.how x) e

@@ -62,12 +62,6 @@ module _ (l : List ℕ) where
 -- ---- states at rest, one after the other
 
 module _ {n : ℕ} {l : List ℕ} where
-  pub rest-none : Rest n l 0 0
-  rest-none = record { still-at = λ k h g. absurd (omega arith) }
-
-  pub rest_over : {e : ℕ} → Rest n l e e
-  rest_over = record { still-at = λ k h g. absurd (omega arith) }
-
   pub rest-on : {i : ℕ} → Rest n l 0 i → still_at n (get_or l i 0) ≡ true → Rest n l 0 (i + 1)
   rest-on {i} f e = record { still-at = λ k h g. go k h g (eqb k i) refl }
     where
@@ -189,9 +183,6 @@ module _ (b l : List ℕ) where
     far-part (the-right c g) h f = record { place = next_place b i p (omega arith); below = omega arith; only = λ n r. only-right n r c g f }
 
   -- ---- the way
-
-  pub way-none : {from to : ℕ} {path : List ℕ} → get_or path 0 0 ≡ 0 → Way b l from to path 0
-  way-none e = record { root = e; each = λ c h. absurd (omega arith) }
 
   pub part_step : {from to i k : ℕ} → PartOf b l from to i k → (k ≡ i → ⊥) → Step b l from to i k
   part_step (inl e) n = absurd (n e)
