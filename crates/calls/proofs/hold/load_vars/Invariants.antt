@@ -1,0 +1,10 @@
+-- `load_vars` copies the variables: the loop has copied the first i.
+use Rattle.std.proofs.Common.{◌≡◌, ◌≤◌, ◌-◌}
+use Rattle.calls.proofs.Copying.{copied}
+use Rattle.calls.proofs.hold.load_vars.Given as goal
+
+abbrev pub invariant-loop-i : goal.invariant-loop-i
+invariant-loop-i l = (l.i ≤ 64) × (l.held ≡ copied l.i l.vars l.fn.held)
+
+abbrev pub decreases-loop-i : goal.decreases-loop-i
+decreases-loop-i l = 64 - l.i
