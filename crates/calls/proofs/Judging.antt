@@ -1,14 +1,14 @@
 -- The verdict of stages one after the other.
 -- Assumes nothing.
 use mathlib.Core.Path.{◌≡◌, refl, sym, ap, ◌∙◌}
-use mathlib.Core.Bool.{Bool, true, false, not}
+use mathlib.Core.Bool.{Bool, true, false}
 use mathlib.Core.List.{List, [], ◌∷◌, ◌++◌, append_assoc}
 use mathlib.Core.Option.{Option, none, some}
 use Prim.Native.Nat.{ℕ, ◌/◌, ◌<◌}
 use lib.Dec.{eqb, leb}
 use lib.IntN.{ℤ}
 use lib.ListN.{length}
-use borrow.Author.Tests.{eq-eqb, ne_eqb, not-true, not-false}
+use borrow.Author.Tests.{eq-eqb, ne_eqb}
 use Rattle.rules.specs.Stages.{Refusal, Stage, first_refusal, or_else, refusal, stage, unless}
 use Rattle.rules.specs.Limits.{record_bytes}
 use Rattle.rules.specs.Limits as Rules
@@ -88,13 +88,13 @@ module _ (b : List ℕ) (k : ℕ) (ss : List Stage) where
   unfolding judged first_refusal
   passes-equal m n h = rw (eq-eqb m n h)
 
-  pub fails-test : {x y : Bool} → x ≡ y → not x ≡ true → judged b (stage k (unless y) ∷ ss) ≡ refused (refusal k 0)
+  pub fails-test : {x y : Bool} → x ≡ y → x ≡ false → judged b (stage k (unless y) ∷ ss) ≡ refused (refusal k 0)
   unfolding judged first_refusal
-  fails-test {x} e h = rw (← e, not-true x h)
+  fails-test e h = rw (← e, h)
 
-  pub passes-test : {x y : Bool} → x ≡ y → not x ≡ false → judged b (stage k (unless y) ∷ ss) ≡ judged b ss
+  pub passes-test : {x y : Bool} → x ≡ y → x ≡ true → judged b (stage k (unless y) ∷ ss) ≡ judged b ss
   unfolding judged first_refusal
-  passes-test {x} e h = rw (← e, not-false x h)
+  passes-test e h = rw (← e, h)
 
   pub fails-first : (is : List ℕ) {x : Found} {p : ℕ} → x ≡ first_of is → x ≡ At p → judged b (stage k is ∷ ss) ≡ refused (refusal k p)
   unfolding judged first_refusal
@@ -121,10 +121,10 @@ module _ (b : List ℕ) (xs : List Stage) {x : Checked} (e : verdict_of x ≡ ju
   same-room : y ≡ leb (announced b).outputs (length o / record_bytes)
   same-room = r ∙ ap (λ (n : Rules.Announced). leb n.outputs (length o / record_bytes)) (sym (all-passed b xs e h).1)
 
-  pub fails-room : not y ≡ true → judged b (room_stage (announced b).outputs o ∷ []) ≡ refused (refusal 11 0)
+  pub fails-room : y ≡ false → judged b (room_stage (announced b).outputs o ∷ []) ≡ refused (refusal 11 0)
   fails-room = fails-test b 11 [] same-room
 
-  pub passes-room : not y ≡ false → judged b (room_stage (announced b).outputs o ∷ []) ≡ judged b []
+  pub passes-room : y ≡ true → judged b (room_stage (announced b).outputs o ∷ []) ≡ judged b []
   passes-room = passes-test b 11 [] same-room
 
 -- ---- stages 1 to 9 before those of the events, and places that were found
