@@ -39,10 +39,6 @@ both : (x y : Bool) → (x && y) ≡ true → (x ≡ true) × (y ≡ true)
 both true y e = (refl, e)
 both false y e = clash (cc)
 
--- a reaction to an event and a value that are those of another
-pub same-event : (b : List ℕ) (steps : ℕ) (st : List ℕ) (v : List ℤ) (o c : List ℕ) {e e' : ℕ} {z z' : ℤ} → e ≡ e' → z ≡ z' → {x : Round Arrays} → x ≡ react array_ops (tree_of b 0) steps e st (arrays (set v 0 z) o c) → x ≡ react array_ops (tree_of b 0) steps e' st (arrays (set v 0 z') o c)
-same-event b steps st v o c {e} {e'} {z} {z'} p q w = w ∙ ap (λ (n : ℕ). react array_ops (tree_of b 0) steps n st (arrays (set v 0 z) o c)) p ∙ ap (λ (y : ℤ). react array_ops (tree_of b 0) steps e' st (arrays (set v 0 y) o c)) q
-
 -- ---- events taken one by one
 
 module _ (b : List ℕ) (l : Lent) (es : List ℕ) where

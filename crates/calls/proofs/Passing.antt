@@ -1,17 +1,16 @@
 -- Tests that go through a list from the front: no mark set, the events of a list.
 -- Assumes nothing.
 use mathlib.Core.Path.{◌≡◌}
-use mathlib.Core.Bool.{Bool, true, false, not}
+use mathlib.Core.Bool.{true, false}
 use mathlib.Core.List.{List, [], ◌∷◌, ◌++◌}
-use Prim.Native.Nat.{ℕ, ◌+◌, ◌*◌, ◌/◌, ◌%◌, ◌≤◌, ◌<◌}
+use Prim.Native.Nat.{ℕ, ◌+◌, ◌/◌, ◌%◌, ◌≤◌, ◌<◌}
 use native.Mathlib.Numerals.{add-one}
-use native.Mathlib.Omega.{arith}
 use lib.Dec.{eqb}
 use lib.ListN.{length, get_or, drop}
 use lib.Seq.{drop-cons, drop-length}
-use borrow.Author.Tests.{eq-eqb, ne_eqb, lt-ltb, le-ltb, not-true, not-false}
-use Rattle.rules.specs.Stages.{failing, if◌then◌else◌, within}
-use Rattle.rules.specs.Limits.{list_too_long, most_list_bytes, most_name, record_bytes}
+use borrow.Author.Tests.{eq-eqb, ne_eqb, le-ltb}
+use Rattle.rules.specs.Stages.{failing, if◌then◌else◌}
+use Rattle.rules.specs.Limits.{most_list_bytes, record_bytes}
 use Rattle.rules.specs.Marks.{all_zero}
 use Rattle.rules.specs.Lists.{event_right, list_fails}
 
@@ -36,9 +35,6 @@ module _ (es : List ℕ) where
   abbrev wrong_events : List ℕ
   wrong_events = failing (event_right es) 0 (length es / record_bytes)
 
-  pub list-too-long : most_list_bytes < length es → list_fails es ≡ list_too_long ∷ []
-  list-too-long h = rw (lt-ltb most_list_bytes (length es) h)
-
   pub list-wrong : length es ≤ most_list_bytes → {i : ℕ} {is : List ℕ} → wrong_events ≡ i ∷ is → list_fails es ≡ i ∷ (is ++ (if eqb (length es % record_bytes) 0 then [] else length es / record_bytes ∷ []))
   list-wrong h e = rw (le-ltb most_list_bytes (length es) h, e)
 
@@ -47,23 +43,3 @@ module _ (es : List ℕ) where
 
   pub list_right : length es ≤ most_list_bytes → wrong_events ≡ [] → length es % record_bytes ≡ 0 → list_fails es ≡ []
   list_right h e x = rw (le-ltb most_list_bytes (length es) h, e, eq-eqb (length es % record_bytes) 0 x)
-
--- ---- one event of a list, from its first four bytes
-
-module _ (es : List ℕ) (i : ℕ) {x : Bool} (e : x ≡ within 1 most_name (get_or es (record_bytes * i) 0)) where
-  first_byte : record_bytes * i + 0 ≡ record_bytes * i
-  first_byte = omega arith
-
-  pub no-event : not x ≡ true → false ≡ event_right es i
-  no-event h = rw (first_byte, ← e, not-true x h)
-
-  module _ (h : not x ≡ false) where
-    pub first-nonzero : (get_or es (record_bytes * i + 1) 0 ≡ 0 → ⊥) → false ≡ event_right es i
-    first-nonzero p = rw (first_byte, ← e, not-false x h, ne_eqb (get_or es (record_bytes * i + 1) 0) 0 p)
-
-    module _ (p : get_or es (record_bytes * i + 1) 0 ≡ 0) where
-      pub second-nonzero : (get_or es (record_bytes * i + 2) 0 ≡ 0 → ⊥) → false ≡ event_right es i
-      second-nonzero q = rw (first_byte, ← e, not-false x h, p, ne_eqb (get_or es (record_bytes * i + 2) 0) 0 q)
-
-      pub third-decides : get_or es (record_bytes * i + 2) 0 ≡ 0 → eqb (get_or es (record_bytes * i + 3) 0) 0 ≡ event_right es i
-      third-decides q = rw (first_byte, ← e, not-false x h, p, q)

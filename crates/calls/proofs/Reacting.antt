@@ -89,9 +89,6 @@ module _ (b m : List ℕ) (v : List ℤ) (e : ℕ) (z : ℤ) (o : List ℕ) (p :
   react-answers {o' = o'} h {r} {m''} {v''} s =
       subst (λ (q : Outcome). Uncounted q r m'' v'' o') (sym react-passed) (answered b o h (passed-few b react-ready.table) (omega arith) (lent m v o) refl none refl refl m (marks-sized b m react-ready.marks) s)
 
-pub same-value : (b : List ℕ) (l : Lent) (e : ℕ) {z z' : ℤ} → z ≡ z' → {r : Answer} {m : List ℕ} {v : List ℤ} {o : List ℕ} → Uncounted (react_call b l (sent_of e z)) r m v o → Uncounted (react_call b l (sent_of e z')) r m v o
-same-value b l e h {r} {m} {v} {o} u = subst (λ (y : ℤ). Uncounted (react_call b l (sent_of e y)) r m v o) h u
-
 -- ---- a start
 
 module _ (b m : List ℕ) (v : List ℤ) (o : List ℕ) (p : first_refusal (start_stages b m v o) ≡ none) where

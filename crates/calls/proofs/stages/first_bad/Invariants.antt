@@ -1,5 +1,5 @@
 -- `first_bad` gives the first bad record of a list: the loop has passed i right ones.
-use Rattle.std.proofs.Common.{◌≡◌, ◌≤◌, ◌-◌, ◌/◌, length}
+use Rattle.std.proofs.Common.{◌≡◌, ◌≤◌, ◌-◌}
 use Rattle.rules.specs.Stages.{failing}
 use Rattle.rules.specs.Lists.{event_right}
 use Rattle.calls.proofs.stages.first_bad.Given as goal
