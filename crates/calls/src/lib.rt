@@ -1,5 +1,6 @@
 // The calls of document 01, for every input: start, react and run_list, without the running totals.
 #![tactic(auto)]
+
 mod hold;
 mod list;
 mod one;

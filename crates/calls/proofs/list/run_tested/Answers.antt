@@ -33,11 +33,12 @@ take_event-round-requires-clause-steps_le_most_rounds c =
     let p = c.requires.events_value in
     let table = (run-ready b c.args.marks.now c.args.vars.now c.args.events.now c.args.out.now p).table in
     let outputs = ap (λ (n : Announced). n.outputs) c.requires.announced_value in
-    let steps = ap (λ (n : Announced). n.steps) c.requires.announced_value in
-    (omega (arith, steps, passed-steps b table),
-    more-ahead b c.args.marks.now c.args.vars.now c.args.events.now c.args.out.now p c.loop-announced.invariant outputs c.goes_on.ensures c.loop-announced-test.true,
-    rw c.listen.ensures (all-listen b (passed-few b table) (replicate 256 0) refl),
-    held-waits b c.args.out.now c.loop-announced.invariant.holds)
+    let steps = ap (λ (n : Announced). n.steps) c.requires.announced_value in (
+      omega (arith, steps, passed-steps b table),
+      more-ahead b c.args.marks.now c.args.vars.now c.args.events.now c.args.out.now p c.loop-announced.invariant outputs c.goes_on.ensures c.loop-announced-test.true,
+      rw c.listen.ensures (all-listen b (passed-few b table) (replicate 256 0) refl),
+      held-waits b c.args.out.now c.loop-announced.invariant.holds,
+    )
 
 pub overflow_add-emitted : goal.overflow_add-emitted
 overflow_add-emitted c =

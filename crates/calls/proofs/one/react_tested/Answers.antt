@@ -21,22 +21,23 @@ react-round-requires-clause-spot c = passed-spot c.args.table.now (react-ready c
 pub react-round-requires-clause-most_le_most_rounds : goal.react-round-requires-clause-most_le_most_rounds
 react-round-requires-clause-most_le_most_rounds c =
     let ready = react-ready c.args.table.now c.args.marks.now c.args.vars.now c.args.event c.args.value c.args.out.now c.requires.out_value in
-    let held = loaded c.args.table.now c.args.marks.now c.args.vars.now c.args.out.now ready (omega arith) (replicate 256 0) refl in
-    (omega (arith, c.requires.steps_value, passed-steps c.args.table.now ready.table),
-    rw c.listen.ensures (all-listen c.args.table.now (passed-few c.args.table.now ready.table) (replicate 256 0) refl),
-    rw c.load_marks.ensures (held-waits c.args.table.now c.args.out.now held))
+    let held = loaded c.args.table.now c.args.marks.now c.args.vars.now c.args.out.now ready (omega arith) (replicate 256 0) refl in (
+      omega (arith, c.requires.steps_value, passed-steps c.args.table.now ready.table),
+      rw c.listen.ensures (all-listen c.args.table.now (passed-few c.args.table.now ready.table) (replicate 256 0) refl),
+      rw c.load_marks.ensures (held-waits c.args.table.now c.args.out.now held),
+    )
 
 pub finish-requires-clause-bytes : goal.finish-requires-clause-bytes
 finish-requires-clause-bytes c =
     let p = c.requires.out_value in
     let ready = react-ready c.args.table.now c.args.marks.now c.args.vars.now c.args.event c.args.value c.args.out.now p in
     let held =
-      reacts c.args.table.now c.args.marks.now c.args.vars.now c.args.event c.args.value c.args.out.now p (omega arith) (replicate 256 0) refl c.requires.steps_value c.load_marks.ensures c.load_vars.ensures (to_z-of_z {w = w32} c.ranges.value) c.react-round.ensures in
+    reacts c.args.table.now c.args.marks.now c.args.vars.now c.args.event c.args.value c.args.out.now p (omega arith) (replicate 256 0) refl c.requires.steps_value c.load_marks.ensures c.load_vars.ensures (to_z-of_z {w = w32} c.ranges.value) c.react-round.ensures in
     held_bytes c.args.table.now c.args.out.now held _ (marks-sized c.args.table.now c.args.marks.now ready.marks)
 
 pub returns : goal.returns
 returns c =
     let p = c.requires.out_value in
     let held =
-      reacts c.args.table.now c.args.marks.now c.args.vars.now c.args.event c.args.value c.args.out.now p (omega arith) (replicate 256 0) refl c.requires.steps_value c.load_marks.ensures c.load_vars.ensures (to_z-of_z {w = w32} c.ranges.value) c.react-round.ensures in
+    reacts c.args.table.now c.args.marks.now c.args.vars.now c.args.event c.args.value c.args.out.now p (omega arith) (replicate 256 0) refl c.requires.steps_value c.load_marks.ensures c.load_vars.ensures (to_z-of_z {w = w32} c.ranges.value) c.react-round.ensures in
     react-answers c.args.table.now c.args.marks.now c.args.vars.now c.args.event c.args.value c.args.out.now p held c.finish.ensures
