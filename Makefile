@@ -3,9 +3,10 @@
 .PHONY: archive test
 
 archive:
-	rt staticlib landarbeso
+	cd crates/landarbeso_c && rt lib
 	mkdir -p target/archive
-	cp target/staticlib/liblandarbeso.a include/landarbeso.h target/archive/
+	cp crates/landarbeso_c/out/liblandarbeso_c.a target/archive/liblandarbeso.a
+	cp include/landarbeso.h target/archive/
 
 test:
 	for test in tests/*/run; do $$test || exit 1; done

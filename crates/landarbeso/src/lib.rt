@@ -1,5 +1,6 @@
-// The C functions: the calls of document 01, each for every input.
+// The calls of document 01, each for every input.
 #![tactic(auto)]
+
 ghost use Rattle.std.specs.Prelude.{◌≡◌};
 ghost use Rattle.rules.specs.Check as Rules;
 ghost use Rattle.rules.specs.Calls.{start_call, react_call};
@@ -46,8 +47,7 @@ pub struct Written {
     pub records: u32,
 }
 
-#[unsafe(no_mangle)]
-pub extern "C" fn landarbeso_check(table: &[u8]) -> CheckedNumbers
+pub fn landarbeso_check(table: &[u8]) -> CheckedNumbers
     ensures { result ≡ numbers_of (Rules.check table.now) }
 {
     let checked = acceptance::check(table);
@@ -71,20 +71,13 @@ pub extern "C" fn landarbeso_check(table: &[u8]) -> CheckedNumbers
     }
 }
 
-#[unsafe(no_mangle)]
-pub extern "C" fn landarbeso_start(
-    table: &[u8],
-    marks: &mut [u8],
-    vars: &mut [i32],
-    out: &mut [u8],
-) -> Answer
+pub fn landarbeso_start(table: &[u8], marks: &mut [u8], vars: &mut [i32], out: &mut [u8]) -> Answer
     ensures { Uncounted (start_call table.now (lent marks.old vars.old out.old)) result marks.new vars.new out.new }
 {
     calls::start(table, marks, vars, out)
 }
 
-#[unsafe(no_mangle)]
-pub extern "C" fn landarbeso_react(
+pub fn landarbeso_react(
     table: &[u8],
     marks: &mut [u8],
     vars: &mut [i32],
@@ -100,8 +93,7 @@ pub extern "C" fn landarbeso_react(
     ran.answer
 }
 
-#[unsafe(no_mangle)]
-pub extern "C" fn landarbeso_run_list(
+pub fn landarbeso_run_list(
     table: &[u8],
     marks: &mut [u8],
     vars: &mut [i32],
@@ -116,8 +108,7 @@ pub extern "C" fn landarbeso_run_list(
     ran.answer
 }
 
-#[unsafe(no_mangle)]
-pub extern "C" fn landarbeso_query(table: &[u8], marks: &[u8]) -> Queried
+pub fn landarbeso_query(table: &[u8], marks: &[u8]) -> Queried
     ensures { result ≡ queried_of (query_call table.now marks.now) }
 {
     let checked = calls::marks_stages(table, marks);
@@ -140,8 +131,7 @@ pub extern "C" fn landarbeso_query(table: &[u8], marks: &[u8]) -> Queried
     }
 }
 
-#[unsafe(no_mangle)]
-pub extern "C" fn landarbeso_remaining(table: &[u8], marks: &[u8], out: &mut [u8]) -> Written
+pub fn landarbeso_remaining(table: &[u8], marks: &[u8], out: &mut [u8]) -> Written
     ensures { Remains (remaining_call table.now marks.now out.old) result out.new }
 {
     let checked = calls::marks_stages(table, marks);

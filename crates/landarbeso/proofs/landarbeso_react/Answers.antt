@@ -1,0 +1,13 @@
+-- All but the totals is the covered call's, and the totals are `count`'s.
+use Rattle.totals.specs.Sum.{totals_of}
+use Rattle.calls.specs.Answers.{sent_of}
+use Rattle.calls.proofs.Totals.{react-any}
+use Rattle.landarbeso.proofs.Counting.{means}
+use Rattle.landarbeso.proofs.landarbeso_react.Goals as goal
+
+pub returns : goal.returns
+returns c =
+    let t = c.args.totals.now in
+    means t c.react-ran.result
+    (react-any c.args.marks.now c.args.vars.now c.args.out.now (totals_of t) c.count.ensures.reactions-fit c.count.ensures.steps-fit c.args.table.now (sent_of c.args.event c.args.value))
+    c.react-ran.ensures c.count.ensures
