@@ -1,5 +1,4 @@
 -- `landarbeso_remaining` answers and leaves what document 01's call does, for every input.
-use Rattle.std.proofs.Common.{arith}
 use Rattle.landarbeso.proofs.Verdicts.{passed-marks, remains-refused, remains-short, remains-whole}
 use Rattle.landarbeso.proofs.landarbeso_remaining.Goals as goal
 
@@ -18,9 +17,6 @@ write_remaining-records-requires-clause-sound c = (passed-marks c.args.table.now
 
 pub write_remaining-records-requires-clause-marks_value : goal.write_remaining-records-requires-clause-marks_value
 write_remaining-records-requires-clause-marks_value c = (passed-marks c.args.table.now c.args.marks.now c.marks_stages-checked.ensures c.in-Accepted.is).1
-
-pub write_remaining-records-requires-clause-table_in_bounds : goal.write_remaining-records-requires-clause-table_in_bounds
-write_remaining-records-requires-clause-table_in_bounds c = omega (arith, c.remaining_span.ensures.0)
 
 pub returns-in-Refused : goal.returns-in-Refused
 returns-in-Refused c = remains-refused c.args.table.now c.args.marks.now c.args.out.now c.marks_stages-checked.ensures c.in-Refused.is
