@@ -1,15 +1,24 @@
 // A file of the current folder.
-ghost use Rattle.io.specs.Counts.{IsPrefixLen};
+ghost use Rattle.std.specs.Prelude.{◌≡◌, ◌≤◌, length, take};
 
-// The bytes at the front of the buffer that the file filled; none where it is missing.
-pub fn read(name: &[u8], buffer: &mut [u8]) -> usize
-    ensures { IsPrefixLen result buffer.new }
+use std::fs;
+use std::io::Read;
+use std::rt::Files;
+
+// The bytes at the front of the buffer that the file filled; none where it is missing. A read that fails ends the file.
+pub fn read(rt: &impl Files, name: &str, buffer: &mut [u8]) -> usize
+    ensures within { result ≤ length buffer.new }
+    ensures taken { length (take result buffer.new) ≡ result }
 {
-    let fd = os::open_read(name);
-    if fd < 0 {
+    let Ok(mut file) = fs::open(rt, name) else {
         return 0;
+    };
+    let mut done = 0;
+    while done < buffer.len() {
+        match file.read(&mut buffer[done..]) {
+            Ok(0) | Err(_) => break,
+            Ok(n) => done += n,
+        }
     }
-    let n = io::read_full(fd, buffer);
-    libc::close(fd);
-    n
+    done
 }

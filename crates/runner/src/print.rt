@@ -1,9 +1,9 @@
 // Lines to the standard output.
 use calls::Answer;
-use libc::STDOUT_FILENO;
 use lines::LINE_BYTES;
+use std::io;
 
-pub fn call(event: u32, value: i32, answer: Answer) {
+pub fn call(rt: &impl Print, event: u32, value: i32, answer: Answer) -> io::Result<()> {
     let mut buffer = [0u8; LINE_BYTES];
     let n = lines::call_line(
         &mut buffer,
@@ -15,27 +15,26 @@ pub fn call(event: u32, value: i32, answer: Answer) {
         answer.outputs,
         answer.finished != 0,
     );
-    io::write_all(STDOUT_FILENO, &buffer[..n]);
+    rt.write_all(&buffer[..n])
 }
 
-fn output(name: u8, value: i32) {
+fn output(rt: &impl Print, name: u8, value: i32) -> io::Result<()> {
     let mut buffer = [0u8; LINE_BYTES];
     let n = lines::out_line(&mut buffer, name, value);
-    io::write_all(STDOUT_FILENO, &buffer[..n]);
+    rt.write_all(&buffer[..n])
 }
 
 // The first outputs of the room.
-pub fn outputs(out: &[u8], count: u64) {
-    let mut i: usize = 0;
-    while (i as u64) < count {
-        let made = lines::entry_at(out, i);
-        output(made.name, made.value);
-        i += 1;
+pub fn outputs(rt: &impl Print, out: &[u8], count: u64) -> io::Result<()> {
+    for i in 0..count {
+        let made = lines::entry_at(out, i as usize);
+        output(rt, made.name, made.value)?;
     }
+    Ok(())
 }
 
-pub fn refusal(number: u32, place: u32) {
+pub fn refusal(rt: &impl Print, number: u32, place: u32) -> io::Result<()> {
     let mut buffer = [0u8; LINE_BYTES];
     let n = lines::refusal_line(&mut buffer, number, place);
-    io::write_all(STDOUT_FILENO, &buffer[..n]);
+    rt.write_all(&buffer[..n])
 }
