@@ -1,12 +1,12 @@
 -- The first place of a walk that a test hits.
 -- Assumes nothing.
+use Rattle.std.specs.Prelude.{if◌then◌else◌}
 use mathlib.Core.Path.{◌≡◌, refl, ap, ◌∙◌}
 use mathlib.Core.Bool.{Bool, true, false, ◌||◌}
 use mathlib.Core.List.{List, [], ◌∷◌, ◌++◌}
 use Prim.Native.Nat.{ℕ, ◌+◌, ◌≤◌}
 use native.Mathlib.Omega.{arith}
 use lib.Dec.{eqb}
-use Rattle.rules.specs.Stages.{if◌then◌else◌}
 use Rattle.rules.specs.Table.{kind_at, second_at}
 use Rattle.rules.specs.Check.{Around, Visit, a_loop, an_every, a_fin, walk, hits}
 use Rattle.table.specs.Kinds.{children_of}

@@ -1,5 +1,6 @@
 -- The verdict from the lowest failing places of the stages, and what a table that passes them has.
 -- Assumes nothing.
+use Rattle.std.specs.Prelude.{if◌then◌else◌}
 use mathlib.Core.Path.{◌≡◌, refl, sym, subst, ◌∙◌}
 use mathlib.Core.Bool.{Bool, true, false, not, ◌&&◌, ◌||◌, and-true}
 use mathlib.Core.List.{List, [], ◌∷◌}
@@ -7,7 +8,7 @@ use Prim.Native.Nat.{ℕ, zero, suc, ◌+◌, ◌≤◌, ◌<◌, max}
 use native.Mathlib.Omega.{arith}
 use lib.Dec.{T, eqb, leb}
 use borrow.Author.Tests.{leb-false}
-use Rattle.rules.specs.Stages.{if◌then◌else◌, refusal, first_refusal, failing}
+use Rattle.rules.specs.Stages.{refusal, first_refusal, failing}
 use Rattle.rules.specs.Limits.{most_loops}
 use Rattle.rules.specs.Table.{span_at, row_at, records_of, span_fits, shape_right, in_kinds_table}
 use Rattle.rules.specs.Check.{refused, accepted, check, table_stages, announced, visits_of, Visit, hits, is_kind, deep_loop, deepest, good_length}

@@ -1,5 +1,6 @@
 -- What the walk from a place counts, and how far it can count.
 -- Assumes nothing.
+use Rattle.std.specs.Prelude.{if◌then◌else◌}
 use mathlib.Core.Path.{◌≡◌, refl, sym, ap, subst, ◌∙◌}
 use mathlib.Core.Bool.{Bool, true, false, not, ◌&&◌, ◌||◌}
 use mathlib.Core.List.{List, [], ◌∷◌}
@@ -8,7 +9,6 @@ use native.Mathlib.Omega.{arith}
 use lib.Dec.{T, eqb, ltb}
 use lib.ListN.{length, get_or}
 use borrow.Author.Tests.{eqb-true, ltb-true, ltb-false, lt-ltb}
-use Rattle.rules.specs.Stages.{if◌then◌else◌}
 use Rattle.rules.specs.Table.{records_of}
 use Rattle.rules.specs.Check.{Around, Visit, walk, hits, count, deepest, is_kind, outside_every, inside_every, loose_break, not_plain, deep_loop, endless_loop}
 use Rattle.theory.specs.Logic.{clash, both_left, both_right}

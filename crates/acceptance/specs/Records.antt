@@ -1,6 +1,5 @@
 -- Stages 2 and 3 at one record; the ranges of the kinds table, by the numbers that the code has for them.
-use Rattle.std.specs.Prelude.{Bool, ◌&&◌, List, ℕ, zero, suc, eqb, pos}
-use Rattle.rules.specs.Stages.{if◌then◌else◌}
+use Rattle.std.specs.Prelude.{Bool, ◌&&◌, List, ℕ, zero, suc, eqb, pos, if◌then◌else◌}
 use Rattle.rules.specs.Table.{Range, nought, anything, up_to63, one_to63, name_at, number_at, row_at, records_of, span_fits, shape_right, in_range}
 
 abbrev pub range_of : ℕ → Range

@@ -1,7 +1,6 @@
 -- Constructs that stand one behind the other up to a place, and what a walk through them counts: emits, the deepest nesting of loops, outputs
 -- outside and inside an every.
-use Rattle.std.specs.Prelude.{◌≡◌, Bool, true, false, not, ◌&&◌, List, [], ◌∷◌, ◌++◌, ℕ, ◌+◌, eqb, ltb, get_or, set}
-use Rattle.rules.specs.Stages.{if◌then◌else◌}
+use Rattle.std.specs.Prelude.{◌≡◌, Bool, true, false, not, ◌&&◌, List, [], ◌∷◌, ◌++◌, ℕ, ◌+◌, eqb, ltb, get_or, set, if◌then◌else◌}
 use Rattle.rules.specs.Table.{span_at}
 use Rattle.rules.specs.Check.{Around, nothing_around, Visit, walk, is_kind}
 use Rattle.table.specs.Places.{Place, tree_of}

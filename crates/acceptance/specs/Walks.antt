@@ -1,6 +1,5 @@
 -- Stages 4 to 7 at one node, and what a walk goes through below a place.
-use Rattle.std.specs.Prelude.{Bool, not, ◌&&◌, ◌||◌, List, [], ◌++◌, ℕ, zero, suc, ◌+◌, eqb}
-use Rattle.rules.specs.Stages.{if◌then◌else◌}
+use Rattle.std.specs.Prelude.{Bool, not, ◌&&◌, ◌||◌, List, [], ◌++◌, ℕ, zero, suc, ◌+◌, eqb, if◌then◌else◌}
 use Rattle.rules.specs.Table.{kind_at, second_at}
 use Rattle.rules.specs.Check.{Around, Visit, a_loop, an_every, a_fin, may_end, walk, hits, loose_break, not_plain, deep_loop, endless_loop}
 use Rattle.table.specs.Places.{tree_of}

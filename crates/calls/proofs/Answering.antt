@@ -1,5 +1,6 @@
 -- From what is held to the answer: what is stored, and what is answered, is what the rules say.
 -- Assumes nothing.
+use Rattle.std.specs.Prelude.{if◌then◌else◌}
 use mathlib.Core.Path.{◌≡◌, refl, sym, ap, ◌∙◌}
 use mathlib.Core.Bool.{◌&&◌}
 use mathlib.Core.List.{List, [], ◌∷◌}
@@ -10,7 +11,7 @@ use lib.Dec.{eqb, eqb→eq}
 use lib.IntN.{ℤ}
 use lib.ListN.{length, get_or, take}
 use lib.Seq.{ext_get_or, get_or-take, length-take-le}
-use Rattle.rules.specs.Stages.{Refusal, Stage, first_refusal, if◌then◌else◌, refusal}
+use Rattle.rules.specs.Stages.{Refusal, Stage, first_refusal, refusal}
 use Rattle.rules.specs.Limits.{most_records, top_total, variables}
 use Rattle.rules.specs.Table.{kind_at, records_of}
 use Rattle.rules.specs.Check.{announced, refused}

@@ -1,5 +1,6 @@
 -- Tests that go through a list from the front: no mark set, the events of a list.
 -- Assumes nothing.
+use Rattle.std.specs.Prelude.{if◌then◌else◌}
 use mathlib.Core.Path.{◌≡◌}
 use mathlib.Core.Bool.{true, false}
 use mathlib.Core.List.{List, [], ◌∷◌, ◌++◌}
@@ -9,7 +10,7 @@ use lib.Dec.{eqb}
 use lib.ListN.{length, get_or, drop}
 use lib.Seq.{drop-cons, drop-length}
 use borrow.Author.Tests.{eq-eqb, ne_eqb, le-ltb}
-use Rattle.rules.specs.Stages.{failing, if◌then◌else◌}
+use Rattle.rules.specs.Stages.{failing}
 use Rattle.rules.specs.Limits.{most_list_bytes, record_bytes}
 use Rattle.rules.specs.Marks.{all_zero}
 use Rattle.rules.specs.Lists.{event_right, list_fails}

@@ -1,5 +1,6 @@
 -- The running totals that are lent change nothing else of a call, and its reactions and steps are added to them.
 -- Assumes nothing.
+use Rattle.std.specs.Prelude.{if◌then◌else◌}
 use mathlib.Core.Path.{◌≡◌, refl, ap, ◌∙◌}
 use mathlib.Core.Bool.{Bool, true, false}
 use mathlib.Core.List.{List, [], ◌∷◌}
@@ -9,7 +10,7 @@ use native.Mathlib.Omega.{arith}
 use lib.Dec.{ltb}
 use lib.IntN.{ℤ}
 use lib.ListN.{length}
-use Rattle.rules.specs.Stages.{Refusal, first_refusal, if◌then◌else◌, option, refusal}
+use Rattle.rules.specs.Stages.{Refusal, first_refusal, option, refusal}
 use Rattle.rules.specs.Limits.{record_bytes, top_total}
 use Rattle.rules.specs.Check.{announced}
 use Rattle.rules.specs.Run.{reaction}

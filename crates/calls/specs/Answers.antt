@@ -1,7 +1,7 @@
 -- What a call answers and leaves, of an outcome of the rules.
-use Rattle.std.specs.Prelude.{◌≡◌, List, ℕ, ◌+◌, min, ℤ}
+use Rattle.std.specs.Prelude.{◌≡◌, List, ℕ, ◌+◌, min, ℤ, if◌then◌else◌}
 use Rattle.std.proofs.Math.Option.{Option}
-use Rattle.rules.specs.Stages.{if◌then◌else◌, option, Refusal}
+use Rattle.rules.specs.Stages.{option, Refusal}
 use Rattle.rules.specs.Limits.{top_total}
 use Rattle.rules.specs.Calls.{Totals, Lent, Outcome, Sent}
 use Rattle.calls.specs.declared.Answer.{Answer}

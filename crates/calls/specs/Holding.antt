@@ -1,6 +1,5 @@
 -- The states and variables of a running program, as code holds them.
-use Rattle.std.specs.Prelude.{◌≡◌, List, ℕ, ◌<◌, ltb, ℤ, get_or, length, take}
-use Rattle.rules.specs.Stages.{if◌then◌else◌}
+use Rattle.std.specs.Prelude.{◌≡◌, List, ℕ, ◌<◌, ltb, ℤ, get_or, length, take, if◌then◌else◌}
 use Rattle.rules.specs.Marks.{all_zero}
 use Rattle.acceptance.specs.declared.Refusal.{Refusal}
 use Rattle.calls.specs.declared.Answer.{Answer}

@@ -1,6 +1,5 @@
 // The states and variables of a running program: loaded from what was lent, and stored again.
-ghost use Rattle.std.specs.Prelude.{◌≡◌, ◌≤◌, length, take};
-ghost use Rattle.rules.specs.Stages.{if◌then◌else◌};
+ghost use Rattle.std.specs.Prelude.{◌≡◌, ◌≤◌, length, take, if◌then◌else◌};
 ghost use Rattle.rules.specs.Limits.{most_records, variables};
 ghost use Rattle.rules.specs.Marks.{all_zero};
 ghost use Rattle.rules.specs.Calls.{onto};

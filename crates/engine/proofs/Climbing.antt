@@ -1,5 +1,6 @@
 -- The constructs above a part that has run: what each makes of it, and the whole program at the end.
 -- Assumes nothing.
+use Rattle.std.specs.Prelude.{if◌then◌else◌}
 use mathlib.Core.Path.{◌≡◌, refl, sym, ap, ◌∙◌}
 use mathlib.Core.Bool.{Bool, true}
 use mathlib.Core.List.{List}
@@ -7,7 +8,6 @@ use Prim.Native.Nat.{ℕ, zero, suc, ◌+◌, ◌-◌, ◌<◌}
 use native.Mathlib.Omega.{arith}
 use lib.Dec.{ltb}
 use lib.ListN.{get_or}
-use Rattle.rules.specs.Stages.{if◌then◌else◌}
 use Rattle.rules.specs.Tree.{Tree, and, or}
 use Rattle.rules.specs.Table.{kind_at, second_at}
 use Rattle.theory.specs.State.{How, Walk, walk, exec, resume_if, resume_seq, resume_loop, resume, still}

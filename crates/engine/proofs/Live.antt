@@ -1,5 +1,6 @@
 -- A tree that has begun, at a place, by the kind of its record.
 -- Assumes nothing.
+use Rattle.std.specs.Prelude.{if◌then◌else◌}
 use mathlib.Core.Path.{◌≡◌, refl, ap}
 use mathlib.Core.Bool.{Bool}
 use mathlib.Core.List.{List}
@@ -8,7 +9,6 @@ use native.Mathlib.Omega.{arith}
 use lib.Dec.{eqb, T, leb}
 use lib.ListN.{get_or}
 use borrow.Author.Tests.{eq-eqb}
-use Rattle.rules.specs.Stages.{if◌then◌else◌}
 use Rattle.rules.specs.Tree.{Tree, Source, input, internal, and, or, by_source}
 use Rattle.rules.specs.Table.{kind_at, second_at}
 use Rattle.theory.specs.State.{idle, walk, exec, resume, resume_await, resume_fin, resume_every, resume_emit, resume_if, resume_seq, resume_loop, resume_both, resume_held}

@@ -1,6 +1,5 @@
 -- The part of a program that runs, and the way down to it: the places of the constructs that hold it, from the root on.
-use Rattle.std.specs.Prelude.{◌≡◌, Bool, true, ◌&&◌, List, ◌⊎◌, ℕ, zero, suc, ◌+◌, ◌-◌, ◌≤◌, ◌<◌, eqb, ltb, get_or}
-use Rattle.rules.specs.Stages.{if◌then◌else◌}
+use Rattle.std.specs.Prelude.{◌≡◌, Bool, true, ◌&&◌, List, ◌⊎◌, ℕ, zero, suc, ◌+◌, ◌-◌, ◌≤◌, ◌<◌, eqb, ltb, get_or, if◌then◌else◌}
 use Rattle.rules.specs.Table.{kind_at, records_of}
 use Rattle.theory.specs.State.{Walk, resume, still_at}
 use Rattle.theory.specs.Part.{Only}

@@ -1,5 +1,6 @@
 -- The digits of a number: the last one behind those of a tenth. A number below 10^k has at most k.
 -- Assumes nothing.
+use Rattle.std.specs.Prelude.{if◌then◌else◌}
 use mathlib.Core.Path.{◌≡◌, refl, ap, ◌∙◌}
 use mathlib.Core.Bool.{Bool, true, false}
 use mathlib.Core.List.{List, [], ◌∷◌, ◌++◌}
@@ -12,7 +13,6 @@ use lib.ListN.{length, length-append}
 use borrow.Author.Tests.{lt-ltb, le-ltb, ltb-true, ltb-false}
 use mir.Syntax.{w32}
 use mir.Val.{of_z, SFits}
-use Rattle.rules.specs.Stages.{if◌then◌else◌}
 use Rattle.lines.specs.Lines.{ascii, digit, last_digits, decimal, signed_decimal}
 
 else_same : (b : Bool) (x y z : List ℕ) → (b ≡ false → y ≡ z) → (if b then x else y) ≡ (if b then x else z)

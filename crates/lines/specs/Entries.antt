@@ -1,6 +1,5 @@
 -- The events of a list and the outputs of a call, as the code reads them.
-use Rattle.std.specs.Prelude.{List, ℕ, ◌/◌, ltb, pos, length}
-use Rattle.rules.specs.Stages.{if◌then◌else◌}
+use Rattle.std.specs.Prelude.{List, ℕ, ◌/◌, ltb, pos, length, if◌then◌else◌}
 use Rattle.rules.specs.Limits.{record_bytes}
 use Rattle.rules.specs.Table.{byte_at, number_at}
 use Rattle.lines.specs.declared.entry.Entry.{Entry}

@@ -1,8 +1,8 @@
 -- The lines that the runner prints, as bytes.
-use Rattle.std.specs.Prelude.{Bool, List, [], ◌∷◌, ◌++◌, ℕ, zero, suc, ◌+◌, ◌/◌, ◌%◌, ltb, ℤ, pos, negsuc}
+use Rattle.std.specs.Prelude.{Bool, List, [], ◌∷◌, ◌++◌, ℕ, zero, suc, ◌+◌, ◌/◌, ◌%◌, ltb, ℤ, pos, negsuc, if◌then◌else◌}
 use Prim.Native.Char.{code}
 use Prim.Native.String.{String, [] as no_text, ◌∷◌ as ◌followed◌}
-use Rattle.rules.specs.Stages.{if◌then◌else◌, Refusal}
+use Rattle.rules.specs.Stages.{Refusal}
 use Rattle.rules.specs.Memory.{Output}
 use Rattle.rules.specs.Calls.{Answer, Sent}
 

@@ -1,5 +1,6 @@
 -- Where each mark is right and each construct fits, stage 8 lets the marks pass: place by place from the last on.
 -- Assumes nothing.
+use Rattle.std.specs.Prelude.{if◌then◌else◌}
 use mathlib.Core.Path.{◌≡◌, refl, sym, ap, ap₂, subst, ◌∙◌}
 use mathlib.Core.Bool.{Bool, true, false, not, ◌&&◌, ◌||◌}
 use mathlib.Core.List.{List, []}
@@ -8,7 +9,7 @@ use native.Mathlib.Omega.{arith}
 use lib.Dec.{eqb, ltb, eqb→eq}
 use lib.ListN.{get_or}
 use borrow.Author.Tests.{eq-eqb, ne_eqb, eqb-true, eqb-false, lt-ltb, le-ltb, ltb-true, ltb-false}
-use Rattle.rules.specs.Stages.{if◌then◌else◌, failing}
+use Rattle.rules.specs.Stages.{failing}
 use Rattle.rules.specs.Table.{kind_at, span_at, second_at, records_of}
 use Rattle.rules.specs.Marks.{may_mark, mark_right}
 use Rattle.theory.specs.Logic.{clash}

@@ -1,5 +1,6 @@
 -- Sets of events as bits: one event, two sets together, their number and the lowest.
 -- Assumes nothing.
+use Rattle.std.specs.Prelude.{if◌then◌else◌}
 use mathlib.Core.Path.{◌≡◌, refl, sym, ap, ap₂, ◌∙◌}
 use mathlib.Core.Bool.{Bool, true, false, not, ◌||◌}
 use mathlib.Core.List.{[], ◌∷◌}
@@ -12,7 +13,7 @@ use lib.Count.{ones, ones_step, count_trailing_zeros, under}
 use lib.Dec.{eqb}
 use lib.ListN.{length, get_or}
 use borrow.Author.Tests.{eq-eqb, ne_eqb}
-use Rattle.rules.specs.Stages.{if◌then◌else◌, failing}
+use Rattle.rules.specs.Stages.{failing}
 use Rattle.rules.specs.Limits.{most_name}
 use Rattle.marks.specs.Awaited.{bits, event_set, lowest_bit}
 

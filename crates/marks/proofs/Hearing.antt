@@ -1,5 +1,6 @@
 -- The events that the marked places of a program wait for are those of the tree at rest where the marks fit; and the event of one place.
 -- Assumes nothing.
+use Rattle.std.specs.Prelude.{if◌then◌else◌}
 use mathlib.Core.Path.{◌≡◌, refl, sym, ◌∙◌}
 use mathlib.Core.Bool.{Bool, true, false, ◌&&◌, ◌||◌}
 use mathlib.Core.List.{List, []}
@@ -10,7 +11,7 @@ use lib.Count.{ones}
 use lib.Dec.{T, eqb}
 use lib.ListN.{length, get_or}
 use borrow.Author.Tests.{eq-eqb, ne_eqb, eqb-true}
-use Rattle.rules.specs.Stages.{if◌then◌else◌, is_some, first_refusal}
+use Rattle.rules.specs.Stages.{is_some, first_refusal}
 use Rattle.rules.specs.Limits.{most_name}
 use Rattle.rules.specs.Tree.{Tree, nop, act, await, emit, break, ifvar, seq, loop, every, par, fin, canrun, at_loop, at_par, Par, Source}
 use Rattle.rules.specs.Table.{kind_at, name_at, program_of, in_kinds_table}

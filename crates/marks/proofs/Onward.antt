@@ -1,5 +1,6 @@
 -- The query's walk over the records, past an every or a fin as a whole: it hears what the places of the tree listen for.
 -- Assumes nothing.
+use Rattle.std.specs.Prelude.{if◌then◌else◌}
 use mathlib.Core.Path.{◌≡◌, refl, sym, ap, ap₂, ◌∙◌}
 use mathlib.Core.Bool.{Bool, true, false, ◌||◌}
 use mathlib.Core.List.{List}
@@ -7,7 +8,6 @@ use Prim.Native.Nat.{ℕ, ◌+◌, ◌≤◌, ◌<◌}
 use native.Mathlib.Omega.{arith}
 use lib.Bits.{bit_or}
 use lib.Dec.{eqb, ltb}
-use Rattle.rules.specs.Stages.{if◌then◌else◌}
 use Rattle.rules.specs.Tree.{Tree, input, internal, assign, increase, copy, subtract, compare, divide, output, and, or}
 use Rattle.rules.specs.Table.{kind_at, span_at, second_at, records_of}
 use Rattle.table.specs.Kinds.{children_of}

@@ -1,5 +1,6 @@
 -- What remains of the construct at a place, from its record and its parts.
 -- Assumes nothing.
+use Rattle.std.specs.Prelude.{if◌then◌else◌, cond}
 use mathlib.Core.Path.{◌≡◌, refl, sym, ◌∙◌}
 use mathlib.Core.Bool.{Bool, true, false}
 use mathlib.Core.List.{List, []}
@@ -9,7 +10,6 @@ use native.Mathlib.Omega.{arith}
 use lib.Dec.{eqb}
 use lib.ListN.{get_or}
 use borrow.Author.Tests.{eq-eqb, ne_eqb}
-use Rattle.rules.specs.Stages.{if◌then◌else◌}
 use Rattle.rules.specs.Tree.{Tree, Par, by_par, span_of, head_of, assign, increase, copy, subtract, compare, divide, output, input, internal, and, or}
 use Rattle.rules.specs.Table.{kind_at, span_at, second_at}
 use Rattle.rules.specs.Marks.{marked, may_mark, rest_seq, rest_if, rest_loop, rest_par, rest_of}
@@ -63,9 +63,9 @@ self-waits false n t e = record { span = refl; records = refl }
 -- by the kind: one that waits; a leaf; two parts
 abbrev RestAt : ℕ → List ℕ → List ℕ → ℕ → Tree → Type 0
 RestAt k b m i t =
-    if may_mark k then Waits (marked m i) (span_at b i) t (rest_of m t) else
-    (if eqb (children_of k) 0 then rest_of m t ≡ none else
-    Made k (rest_of m t) (rest_of m (tree_of b (i + 1))) (rest_of m (tree_of b (other_for k b i))) (tree_of b (other_for k b i)))
+    cond (may_mark k) (Waits (marked m i) (span_at b i) t (rest_of m t))
+    (cond (eqb (children_of k) 0) (rest_of m t ≡ none)
+    (Made k (rest_of m t) (rest_of m (tree_of b (i + 1))) (rest_of m (tree_of b (other_for k b i))) (tree_of b (other_for k b i))))
 
 rest_at : (b m : List ℕ) (i : ℕ) → Place b i → RestAt (kind_at b i) b m i (tree_of b i)
 unfolding rest_of children_of

@@ -1,5 +1,6 @@
 -- What the marks say of the construct at a place, from its record and its children; and stage 8 whole.
 -- Assumes nothing.
+use Rattle.std.specs.Prelude.{if◌then◌else◌}
 use mathlib.Core.Path.{◌≡◌, refl, sym, ap, subst, ◌∙◌}
 use mathlib.Core.Bool.{Bool, true, false, not, ◌||◌}
 use mathlib.Core.List.{List, [], ◌∷◌, ◌++◌}
@@ -8,7 +9,7 @@ use Prim.Native.Nat.{ℕ, ◌+◌, ◌≤◌, ◌<◌}
 use lib.Dec.{eqb}
 use lib.ListN.{length}
 use borrow.Author.Tests.{eq-eqb, ne_eqb}
-use Rattle.rules.specs.Stages.{if◌then◌else◌, is_some, failing, refusal, or_else, first_refusal}
+use Rattle.rules.specs.Stages.{is_some, failing, refusal, or_else, first_refusal}
 use Rattle.rules.specs.Tree.{Tree, Par, assign, increase, copy, subtract, compare, divide, output, input, internal, and, or}
 use Rattle.rules.specs.Table.{kind_at, span_at, second_at, records_of, program_of}
 use Rattle.rules.specs.Marks.{marked, may_mark, mark_right, marks_stages, rest_seq, rest_if, rest_loop, rest_par, rest_of, misfit, par_misfit, misfits}

@@ -1,5 +1,6 @@
 -- Writing what remains of a construct: the room that each part has, and that the parts together are the whole.
 -- Assumes nothing.
+use Rattle.std.specs.Prelude.{if◌then◌else◌}
 use mathlib.Core.Path.{◌≡◌, refl, sym, ap, ◌∙◌}
 use mathlib.Core.List.{List, ◌++◌}
 use mathlib.Core.Option.{Option, none, some}
@@ -9,7 +10,6 @@ use lib.Dec.{ltb}
 use lib.ListN.{length, get_or}
 use lib.Seq.{sets}
 use borrow.Author.Tests.{ne_eqb, lt-ltb, le-ltb}
-use Rattle.rules.specs.Stages.{if◌then◌else◌}
 use Rattle.rules.specs.Tree.{Tree}
 use Rattle.rules.specs.Table.{span_at}
 use Rattle.rules.specs.Marks.{rest_of}

@@ -1,7 +1,6 @@
 -- The input events that wake some place, as a set of bits: bit e for event e.
-use Rattle.std.specs.Prelude.{Bool, ◌&&◌, ◌||◌, List, ℕ, zero, suc, ◌+◌, ◌*◌, eqb, ltb}
+use Rattle.std.specs.Prelude.{Bool, ◌&&◌, ◌||◌, List, ℕ, zero, suc, ◌+◌, ◌*◌, eqb, ltb, if◌then◌else◌}
 use Rattle.std.specs.Int.Count.{count_trailing_zeros}
-use Rattle.rules.specs.Stages.{if◌then◌else◌}
 use Rattle.rules.specs.Limits.{most_name}
 use Rattle.rules.specs.Tree.{Tree, Source, input}
 use Rattle.rules.specs.Table.{kind_at, name_at, span_at}

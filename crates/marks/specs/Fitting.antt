@@ -1,7 +1,7 @@
 -- What the marks say of a construct: whether it has one, and the lowest construct in it that does not fit.
-use Rattle.std.specs.Prelude.{◌≡◌, Bool, true, false, not, ◌&&◌, ◌||◌, List, ℕ, ◌+◌, ◌*◌, ◌<◌, ◌≤◌, T, eqb, ltb, length, get_or}
+use Rattle.std.specs.Prelude.{◌≡◌, Bool, true, false, not, ◌&&◌, ◌||◌, List, ℕ, ◌+◌, ◌*◌, ◌<◌, ◌≤◌, T, eqb, ltb, length, get_or, if◌then◌else◌}
 use Rattle.std.proofs.Math.Option.{Option, none, some}
-use Rattle.rules.specs.Stages.{if◌then◌else◌, is_some, Refusal, refusal, first_refusal}
+use Rattle.rules.specs.Stages.{is_some, Refusal, refusal, first_refusal}
 use Rattle.rules.specs.Limits.{most_records}
 use Rattle.rules.specs.Tree.{Tree}
 use Rattle.rules.specs.Table.{span_at, records_of, in_kinds_table}

@@ -1,10 +1,10 @@
 -- Arrays that stand for a memory go on standing for it: a step more, kinds 1 to 7, the test of an if.
 -- Assumes nothing.
+use Rattle.std.specs.Prelude.{if◌then◌else◌}
 use Rattle.std.proofs.Common.{◌≡◌, ℕ, suc, ◌+◌, ◌/◌, ◌<◌, ◌≤◌, min, Bool, true, false, not, ltb, List, [], ◌∷◌, ◌++◌, length, get_or, set, ℤ, pos, sym, refl, ap, ◌∙◌, append_assoc, add-one, arith, length-append, length-set, ltb-false, ltb-true}
 use lib.Signed.{mag}
 use lib.ListN.{get_or-eq_default}
 use lib.Seq.{set_out, take-nil}
-use Rattle.rules.specs.Stages.{if◌then◌else◌}
 use Rattle.rules.specs.Limits.{record_bytes, variables, top_total}
 use Rattle.rules.specs.Number.{is_zero}
 use Rattle.rules.specs.Tree.{Act, assign, increase, copy, subtract, compare, divide, output}

@@ -1,9 +1,9 @@
 -- The memory of a running program as the arrays that are lent down every walk, and what kinds 1 to 7 do to them.
-use Rattle.std.specs.Prelude.{◌≡◌, ℕ, ◌+◌, ◌*◌, ◌/◌, ◌%◌, Bool, not, List, [], ◌∷◌, length, ℤ, pos, ◌==◌, nat_lt, slice_index, slice_index_or, slice_set}
+use Rattle.std.specs.Prelude.{◌≡◌, ℕ, ◌+◌, ◌*◌, ◌/◌, ◌%◌, Bool, not, List, [], ◌∷◌, length, ℤ, pos, ◌==◌, nat_lt, slice_index, slice_index_or, slice_set, if◌then◌else◌}
 use Rattle.std.proofs.Math.Option.{Option, none, some}
 use Rattle.std.specs.Int.Signed.{mag}
 use Rattle.std.proofs.lemmas.List.Edits.{sets}
-use Rattle.rules.specs.Stages.{if◌then◌else◌, option}
+use Rattle.rules.specs.Stages.{option}
 use Rattle.rules.specs.Limits.{record_bytes, variables, top_total}
 use Rattle.rules.specs.Number.{sum, difference, quotient, is_less, is_zero}
 use Rattle.rules.specs.Tree.{Act, assign, increase, copy, subtract, compare, divide, output}

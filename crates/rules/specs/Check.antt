@@ -1,7 +1,7 @@
 -- What the check refuses, stages 1 to 7, and the announced numbers.
-use Rattle.std.specs.Prelude.{Bool, true, false, not, ◌&&◌, ◌||◌, List, [], ◌∷◌, ◌++◌, ℕ, suc, ◌%◌, max, eqb, leb, length}
+use Rattle.std.specs.Prelude.{Bool, true, false, not, ◌&&◌, ◌||◌, List, [], ◌∷◌, ◌++◌, ℕ, suc, ◌%◌, max, eqb, leb, length, if◌then◌else◌}
 use Rattle.std.proofs.Math.Option.{Option, none, some}
-use Rattle.rules.specs.Stages.{if◌then◌else◌, failing, unless, Refusal, Stage, stage, first_refusal}
+use Rattle.rules.specs.Stages.{failing, unless, Refusal, Stage, stage, first_refusal}
 use Rattle.rules.specs.Limits.{record_bytes, most_table_bytes, most_loops, Announced, announce}
 use Rattle.rules.specs.Table.{records_of, program_of, shape_right, in_kinds_table}
 use Rattle.rules.specs.Tree.{Tree, nop, act, await, emit, break, ifvar, seq, loop, every, par, fin, canrun, at_loop, at_par, Source, input, internal, Par, and, or, head_of}

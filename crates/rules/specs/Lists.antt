@@ -1,7 +1,7 @@
 -- A list of events.
-use Rattle.std.specs.Prelude.{Bool, ◌&&◌, List, [], ◌∷◌, ◌++◌, ℕ, zero, suc, ◌-◌, ◌/◌, ◌%◌, eqb, ltb, length}
+use Rattle.std.specs.Prelude.{Bool, ◌&&◌, List, [], ◌∷◌, ◌++◌, ℕ, zero, suc, ◌-◌, ◌/◌, ◌%◌, eqb, ltb, length, if◌then◌else◌}
 use Rattle.std.proofs.Math.Option.{none, some}
-use Rattle.rules.specs.Stages.{if◌then◌else◌, within, failing, refusal, Stage, stage, first_refusal}
+use Rattle.rules.specs.Stages.{within, failing, refusal, Stage, stage, first_refusal}
 use Rattle.rules.specs.Limits.{record_bytes, most_name, most_list_bytes, list_too_long}
 use Rattle.rules.specs.Table.{byte_at, number_at}
 use Rattle.rules.specs.Check.{announced, table_stages}

@@ -1,7 +1,7 @@
 -- The waiting marks: stage 8, the tree at rest that they stand for, and the marks of a tree at rest.
-use Rattle.std.specs.Prelude.{Bool, true, false, not, ◌&&◌, ◌||◌, List, [], ◌∷◌, ◌++◌, ℕ, eqb, length, get_or, set, replicate}
+use Rattle.std.specs.Prelude.{Bool, true, false, not, ◌&&◌, ◌||◌, List, [], ◌∷◌, ◌++◌, ℕ, eqb, length, get_or, set, replicate, if◌then◌else◌}
 use Rattle.std.proofs.Math.Option.{Option, none, some}
-use Rattle.rules.specs.Stages.{if◌then◌else◌, is_some, failing, unless, Stage, stage}
+use Rattle.rules.specs.Stages.{is_some, failing, unless, Stage, stage}
 use Rattle.rules.specs.Table.{kind_at, records_of, program_of}
 use Rattle.rules.specs.Tree.{Tree, nop, act, await, emit, break, ifvar, seq, loop, every, par, fin, canrun, at_loop, at_par, Par, and, or}
 

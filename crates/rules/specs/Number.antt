@@ -1,9 +1,8 @@
 -- Numbers of 32 signed bits (in code an `i32`), and their four bytes.
-use Rattle.std.specs.Prelude.{Bool, false, List, [], ◌∷◌, ℕ, suc, ◌+◌, ◌-◌, ◌*◌, ◌/◌, ◌%◌, ◌^◌, ℤ, pos, negsuc, ◌+ℤ◌, ◌-ℤ◌, eqb}
+use Rattle.std.specs.Prelude.{Bool, false, List, [], ◌∷◌, ℕ, suc, ◌+◌, ◌-◌, ◌*◌, ◌/◌, ◌%◌, ◌^◌, ℤ, pos, negsuc, ◌+ℤ◌, ◌-ℤ◌, eqb, if◌then◌else◌}
 use Rattle.std.specs.Int.Signed.{lt_z, quot_z}
 use Rattle.std.proofs.Common.{to_z, of_z}
 use Rattle.std.specs.Int.{w32}
-use Rattle.rules.specs.Stages.{if◌then◌else◌}
 
 -- a whole number taken modulo 2^32 into the range of 32 signed bits
 unfoldable pub wrap : ℤ → ℤ

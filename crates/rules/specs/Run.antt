@@ -1,7 +1,7 @@
 -- Steps to the end, with their counts; the start and the reaction of a table.
-use Rattle.std.specs.Prelude.{List, [], ℕ, zero, suc, max, ℤ, pos, set}
+use Rattle.std.specs.Prelude.{List, [], ℕ, zero, suc, max, ℤ, pos, set, if◌then◌else◌}
 use Rattle.std.proofs.Math.Option.{none, some}
-use Rattle.rules.specs.Stages.{if◌then◌else◌, is_some}
+use Rattle.rules.specs.Stages.{is_some}
 use Rattle.rules.specs.Tree.{Tree}
 use Rattle.rules.specs.Table.{program_of}
 use Rattle.rules.specs.Check.{announced}

@@ -1,11 +1,6 @@
 -- Choices and tests as the definitions write them; refusals, and the stages that give them.
-use Rattle.std.specs.Prelude.{Bool, true, false, ◌&&◌, List, [], ◌∷◌, ℕ, zero, suc, leb}
+use Rattle.std.specs.Prelude.{if◌then◌else◌, Bool, true, false, ◌&&◌, List, [], ◌∷◌, ℕ, zero, suc, leb}
 use Rattle.std.proofs.Math.Option.{Option, none, some}
-
-infix 3 if◌then◌else◌
-abbrev pub if◌then◌else◌ {ℓ} : {A : Type ℓ} → Bool → A → A → A
-if true then a else b = a
-if false then a else b = b
 
 -- lo ≤ n ≤ hi
 abbrev pub within : ℕ → ℕ → ℕ → Bool

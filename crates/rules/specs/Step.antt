@@ -1,7 +1,7 @@
 -- The rules of a reaction: blocked, clear, awake; the nested step; push, pop, and the one next description.
-use Rattle.std.specs.Prelude.{Bool, true, false, ◌&&◌, ◌||◌, ℕ, zero, suc, eqb, ltb}
+use Rattle.std.specs.Prelude.{Bool, true, false, ◌&&◌, ◌||◌, ℕ, zero, suc, eqb, ltb, if◌then◌else◌}
 use Rattle.std.proofs.Math.Option.{Option, none, some}
-use Rattle.rules.specs.Stages.{if◌then◌else◌, option}
+use Rattle.rules.specs.Stages.{option}
 use Rattle.rules.specs.Number.{is_zero}
 use Rattle.rules.specs.Tree.{Tree, nop, act, await, emit, break, ifvar, seq, loop, every, par, fin, canrun, at_loop, at_par, Source, input, internal, eq_source, Par, and, or}
 use Rattle.rules.specs.Memory.{Memory, read, Deed, quiet, does, raises, effect}

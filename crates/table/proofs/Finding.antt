@@ -1,12 +1,13 @@
 -- The places that fail a test, place by place; the lowest of them, also of two lists, and the refusal that it stands for.
 -- Assumes nothing.
+use Rattle.std.specs.Prelude.{if◌then◌else◌}
 use mathlib.Core.Path.{◌≡◌, refl, ap, subst}
 use mathlib.Core.Bool.{Bool, true, false}
 use mathlib.Core.List.{List, [], ◌∷◌, ◌++◌}
 use mathlib.Core.Option.{Option, some}
 use Prim.Native.Nat.{ℕ, suc, ◌+◌, ◌-◌, ◌≤◌, ◌<◌}
 use native.Mathlib.Omega.{arith}
-use Rattle.rules.specs.Stages.{if◌then◌else◌, failing, Refusal, refusal, or_else}
+use Rattle.rules.specs.Stages.{failing, Refusal, refusal, or_else}
 use Rattle.rules.specs.Table.{records_of}
 use Rattle.theory.specs.Logic.{clash}
 use Rattle.table.specs.Found.{first_of, Inside, or_next}

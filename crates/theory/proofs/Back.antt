@@ -1,8 +1,8 @@
 -- Marks that stage 8 lets pass are the marks of the tree that is read from them.
-use Rattle.std.specs.Prelude.{◌≡◌, refl, Bool, true, false, ◌&&◌, ◌||◌, List, [], ◌∷◌, ◌++◌, ℕ, suc, ◌+◌, ◌<◌, eqb, T, length, get_or}
+use Rattle.std.specs.Prelude.{◌≡◌, refl, Bool, true, false, ◌&&◌, ◌||◌, List, [], ◌∷◌, ◌++◌, ℕ, suc, ◌+◌, ◌<◌, eqb, T, length, get_or, if◌then◌else◌}
 use Rattle.std.proofs.Common.{sym, ap, subst, ◌∙◌, arith, eqb→eq, eqb-true}
 use Rattle.std.proofs.Math.Option.{Option, none, some}
-use Rattle.rules.specs.Stages.{first_refusal, if◌then◌else◌}
+use Rattle.rules.specs.Stages.{first_refusal}
 use Rattle.rules.specs.Limits.{Announced}
 use Rattle.rules.specs.Tree.{Tree, act, at_loop, at_par, await, break, canrun, emit, every, fin, ifvar, loop, nop, par, seq, span_of}
 use Rattle.rules.specs.Table.{program_of, records_of}

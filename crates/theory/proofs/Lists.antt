@@ -1,10 +1,10 @@
 -- A list of events. What it answers is the fold of its reactions over the events taken; it stops only where the room left is below
 -- the announced outputs, and so never where there is room for every event at the announced size.
-use Rattle.std.specs.Prelude.{◌≡◌, refl, Bool, true, false, ℕ, zero, suc, ◌+◌, ◌-◌, ◌*◌, ◌/◌, ◌≤◌, ◌<◌, ltb, length}
+use Rattle.std.specs.Prelude.{◌≡◌, refl, Bool, true, false, ℕ, zero, suc, ◌+◌, ◌-◌, ◌*◌, ◌/◌, ◌≤◌, ◌<◌, ltb, length, if◌then◌else◌}
 use Rattle.std.proofs.Common.{sym, ap, subst, ◌∙◌, arith, zero-add, ltb-true, ltb-false, le-ltb}
 use mathlib.Core.List.{foldl, List, [], ◌∷◌, ◌++◌}
 use Rattle.std.proofs.Math.Option.{Option, none, some}
-use Rattle.rules.specs.Stages.{Refusal, first_refusal, if◌then◌else◌, refusal, stage}
+use Rattle.rules.specs.Stages.{Refusal, first_refusal, refusal, stage}
 use Rattle.rules.specs.Limits.{record_bytes}
 use Rattle.rules.specs.Table.{byte_at, number_at}
 use Rattle.rules.specs.Check.{announced, table_stages}

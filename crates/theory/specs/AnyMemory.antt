@@ -1,9 +1,8 @@
 -- The walks over the states do not look into the memory: on memories that correspond they take the same way and leave memories that correspond.
-use Rattle.std.specs.Prelude.{◌≡◌, Bool, not, ◌&&◌, ◌||◌, List, eqb, ℤ, get_or, set}
+use Rattle.std.specs.Prelude.{◌≡◌, Bool, not, ◌&&◌, ◌||◌, List, eqb, ℤ, get_or, set, if◌then◌else◌, cond}
 use Rattle.std.proofs.Common.{subst}
 use Rattle.std.proofs.Math.Bool.{true, false}
 use Prim.Native.Nat.{ℕ, zero, suc, ◌+◌, ◌-◌, max}
-use Rattle.rules.specs.Stages.{if◌then◌else◌}
 use Rattle.rules.specs.Tree.{Act, Par, Tree, act, and, at_loop, at_par, await, break, canrun, emit, every, fin, ifvar, loop, nop, or, par, seq}
 use Rattle.rules.specs.Step.{Event, input_event, internal_event, wakes}
 use Rattle.theory.specs.Ranges.{Ranged, RightAct, RightEmit, RightTest}
@@ -44,7 +43,7 @@ module _ {M N : Type 0} (o : Ops M) (q : Ops N) (R : M → N → Type 0) (like :
   tick-if true r = tick r
   tick-if false r = r
 
-  pick {ℓ} : {A : Type ℓ} {B : Type ℓ} (P : A → B → Type 0) (b : Bool) {x y : A} {u v : B} → P x u → P y v → P (if b then x else y) (if b then u else v)
+  pick {ℓ} : {A : Type ℓ} {B : Type ℓ} (P : A → B → Type 0) (b : Bool) {x y : A} {u v : B} → P x u → P y v → P (cond b x y) (cond b u v)
   pick P true a b = a
   pick P false a b = b
 

@@ -1,12 +1,11 @@
 -- The run of nested steps up to the next push or pop, as one function by recursion on the tree; it is a chain of the rules.
-use Rattle.std.specs.Prelude.{◌≡◌, Bool, not, ℕ, suc, ◌+◌, ◌≤◌, eqb, ℤ}
+use Rattle.std.specs.Prelude.{◌≡◌, Bool, not, ℕ, suc, ◌+◌, ◌≤◌, eqb, ℤ, if◌then◌else◌}
 use Rattle.std.proofs.Math.Path.{refl, subst}
 use Rattle.std.proofs.Common.{sym, arith, T_not}
 use Rattle.std.proofs.Math.Bool.{true, false}
 use Rattle.std.proofs.Math.Option.{none}
 use Rattle.std.proofs.Math.Dec.{T}
 use borrow.Author.Tests.{lt-ltb, eqb-true, eqb-false}
-use Rattle.rules.specs.Stages.{if◌then◌else◌}
 use Rattle.rules.specs.Number.{is_zero}
 use Rattle.rules.specs.Tree.{Par, Tree, act, and, at_loop, at_par, await, break, canrun, emit, every, fin, ifvar, loop, nop, or, par, seq}
 use Rattle.rules.specs.Check.{may_end}

@@ -1,8 +1,7 @@
 -- What a push adds to what a tree can still cost: an internal event, and the input event at the start of a reaction.
-use Rattle.std.specs.Prelude.{◌≡◌, Bool, ◌&&◌, ℕ, ◌+◌, ◌*◌, ◌≤◌, T}
+use Rattle.std.specs.Prelude.{◌≡◌, Bool, ◌&&◌, ℕ, ◌+◌, ◌*◌, ◌≤◌, T, if◌then◌else◌}
 use Rattle.std.proofs.Math.Bool.{true, false}
 use native.Mathlib.Omega.{arith}
-use Rattle.rules.specs.Stages.{if◌then◌else◌}
 use Rattle.rules.specs.Tree.{Source, Tree, act, at_loop, at_par, await, break, canrun, emit, every, fin, ifvar, input, internal, loop, nop, par, seq}
 use Rattle.rules.specs.Check.{may_break, may_end}
 use Rattle.rules.specs.Step.{awake}

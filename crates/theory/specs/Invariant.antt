@@ -1,8 +1,8 @@
 -- What every description of a run keeps, and what the last one is: level 0, no event pending, the tree @nop or blocked.
-use Rattle.std.specs.Prelude.{◌≡◌, refl, Bool, true, false, ℕ, zero, suc, ◌+◌, ◌≤◌, T}
+use Rattle.std.specs.Prelude.{◌≡◌, refl, Bool, true, false, ℕ, zero, suc, ◌+◌, ◌≤◌, T, if◌then◌else◌}
 use Rattle.std.proofs.Common.{sym, ap, subst, ◌∙◌, arith}
 use Rattle.std.proofs.Math.Option.{Option, none, some}
-use Rattle.rules.specs.Stages.{if◌then◌else◌, is_some, option}
+use Rattle.rules.specs.Stages.{is_some, option}
 use Rattle.rules.specs.Tree.{Source, Tree, act, at_loop, at_par, await, break, canrun, emit, every, fin, ifvar, loop, nop, par, seq}
 use Rattle.rules.specs.Memory.{Deed, Memory, does, quiet, raises}
 use Rattle.rules.specs.Step.{Description, Event, Front, Nested, awake, blocked, broken, done, front, going, is_done, moved, nested, nested_step, nop_or_blocked, pop, push, raised, step, step_at, stuck, wakes}

@@ -1,7 +1,6 @@
 -- A walk changes the states at the places of its own tree alone, whatever they are.
-use Rattle.std.specs.Prelude.{Bool, true, List, ℕ, eqb, get_or, set}
+use Rattle.std.specs.Prelude.{Bool, true, List, ℕ, eqb, get_or, set, if◌then◌else◌}
 use Rattle.std.proofs.Math.Bool.{false}
-use Rattle.rules.specs.Stages.{if◌then◌else◌}
 use Rattle.rules.specs.Tree.{Par, Tree, act, and, at_loop, at_par, await, break, canrun, emit, every, fin, ifvar, loop, nop, or, par, seq}
 use Rattle.theory.specs.State.{Ops, How, idle, ended, broke, waiting, ringing, Walk, walk, Swept, swept, Then, sweep_held, sweep_both, sweep, exec_seq, exec_loop, after_right, exec_par, exec, resume_if, resume_seq, resume_loop, take_turn, right_alone, resume_both, resume_held, resume}
 use Rattle.theory.specs.Frame.{At, Within, Laid, Fork, Stem, within-refl, within-trans, part-within, set-within, leaf-own, stem-own, body-part, fork-own, left-part, right-part}

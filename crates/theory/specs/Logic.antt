@@ -1,7 +1,6 @@
 -- Tests as types: what an and, an or, a choice or an empty list says of its parts; and pairs that are written row by row.
-use Rattle.std.specs.Prelude.{◌≡◌, refl, Bool, true, false, not, ◌&&◌, ◌||◌, List, [], ◌∷◌, ◌++◌, ℕ, ◌≤◌, T}
+use Rattle.std.specs.Prelude.{◌≡◌, refl, Bool, true, false, not, ◌&&◌, ◌||◌, List, [], ◌∷◌, ◌++◌, ℕ, ◌≤◌, T, if◌then◌else◌}
 use Rattle.std.proofs.Common.{arith}
-use Rattle.rules.specs.Stages.{if◌then◌else◌}
 use Rattle.rules.specs.Tree.{Par, and, or}
 use Rattle.rules.specs.Check.{par_ends}
 

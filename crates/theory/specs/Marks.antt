@@ -1,8 +1,8 @@
 -- The waiting places of the tree that is read from fitting marks are the marked places.
-use Rattle.std.specs.Prelude.{◌≡◌, refl, Bool, true, false, ◌&&◌, List, [], ◌∷◌, ◌++◌, ℕ}
+use Rattle.std.specs.Prelude.{◌≡◌, refl, Bool, true, false, ◌&&◌, List, [], ◌∷◌, ◌++◌, ℕ, if◌then◌else◌}
 use Rattle.std.proofs.Common.{ap, ◌∙◌, append-nil}
 use Rattle.std.proofs.Math.Option.{Option, none, some}
-use Rattle.rules.specs.Stages.{if◌then◌else◌, is_some}
+use Rattle.rules.specs.Stages.{is_some}
 use Rattle.rules.specs.Tree.{Par, Tree, act, at_loop, at_par, await, break, canrun, emit, every, fin, ifvar, loop, nop, par, seq}
 use Rattle.rules.specs.Marks.{marked, misfit, misfits, par_misfit, rest_if, rest_loop, rest_of, rest_par, rest_seq, waits}
 use Rattle.theory.specs.Logic.{nil-left, nil-right}

@@ -1,9 +1,8 @@
 -- What a tree can still cost, what one event can add to it, and the most where every loop that has begun comes round once more.
-use Rattle.std.specs.Prelude.{◌≡◌}
+use Rattle.std.specs.Prelude.{◌≡◌, if◌then◌else◌}
 use Rattle.std.proofs.Math.Path.{refl}
 use Prim.Native.Nat.{ℕ, ◌+◌, ◌*◌, ◌≤◌, max}
 use native.Mathlib.Omega.{arith}
-use Rattle.rules.specs.Stages.{if◌then◌else◌}
 use Rattle.rules.specs.Tree.{Act, Tree, act, assign, at_loop, at_par, await, break, canrun, compare, copy, divide, emit, every, fin, ifvar, increase, loop, nop, output, par, seq, subtract}
 use Rattle.rules.specs.Check.{may_end}
 use Rattle.rules.specs.Memory.{Deed, does, quiet, raises}

@@ -1,9 +1,8 @@
 -- What a program can cost, at any weights: 5sN + eE + oP at once, and sN + oQ more at each event; a tree at rest at most D+1 times as much.
-use Rattle.std.specs.Prelude.{◌≡◌, Bool, true, false, not, List, T}
+use Rattle.std.specs.Prelude.{◌≡◌, Bool, true, false, not, List, T, if◌then◌else◌}
 use Rattle.std.proofs.Math.Option.{Option, none, some}
 use Prim.Native.Nat.{ℕ, zero, suc, ◌+◌, ◌*◌, ◌≤◌}
 use native.Mathlib.Omega.{arith}
-use Rattle.rules.specs.Stages.{if◌then◌else◌}
 use Rattle.rules.specs.Tree.{Act, Par, Tree, act, assign, at_loop, at_par, await, break, canrun, compare, copy, divide, emit, every, fin, ifvar, increase, loop, nop, output, par, seq, span_of, subtract}
 use Rattle.rules.specs.Check.{may_end}
 use Rattle.rules.specs.Marks.{marked, rest_if, rest_loop, rest_of, rest_par, rest_seq}

@@ -1,7 +1,6 @@
 -- A tree that is neither @nop, nor a break, nor blocked has a step; the levels of its @canruns, on which this rests, are kept by steps, pushes and pops.
-use Rattle.std.specs.Prelude.{◌≡◌, refl, Bool, true, false, ℕ, suc, ◌≤◌, eqb, ltb, T}
+use Rattle.std.specs.Prelude.{◌≡◌, refl, Bool, true, false, ℕ, suc, ◌≤◌, eqb, ltb, T, if◌then◌else◌}
 use Rattle.std.proofs.Common.{arith, ltb→lt, ltb-false, eq-eqb}
-use Rattle.rules.specs.Stages.{if◌then◌else◌}
 use Rattle.rules.specs.Number.{is_zero}
 use Rattle.rules.specs.Tree.{Par, Source, Tree, act, and, at_loop, at_par, await, break, canrun, emit, every, fin, ifvar, loop, nop, or, par, seq}
 use Rattle.rules.specs.Memory.{Memory, quiet, read}

@@ -1,9 +1,9 @@
 -- The tree that meets an event, a program or a tree at rest: it is left of the program, no @canrun is in it, no break leaves it,
 -- and it costs at most D+1 times what the program does.
-use Rattle.std.specs.Prelude.{◌≡◌, Bool, true, false, ◌&&◌, List, [], ℕ, ◌+◌, ◌*◌, ◌≤◌, T}
+use Rattle.std.specs.Prelude.{◌≡◌, Bool, true, false, ◌&&◌, List, [], ℕ, ◌+◌, ◌*◌, ◌≤◌, T, if◌then◌else◌}
 use Rattle.std.proofs.Math.Option.{Option, none, some}
 use Rattle.std.proofs.Common.{arith}
-use Rattle.rules.specs.Stages.{if◌then◌else◌, is_some}
+use Rattle.rules.specs.Stages.{is_some}
 use Rattle.rules.specs.Tree.{Par, Tree, act, and, at_loop, at_par, await, break, canrun, emit, every, fin, ifvar, loop, nop, or, par, seq}
 use Rattle.rules.specs.Marks.{at_rest, marked, misfit, misfits, or_nop, par_misfit, rest_if, rest_loop, rest_of, rest_par, rest_seq}
 use Rattle.theory.specs.Logic.{or_left, or_right, or_map, clash}

@@ -1,10 +1,9 @@
 -- The rules inside a tree, each as a rule of a relation; the published `nested_step` is that relation, so at most one fits.
-use Rattle.std.specs.Prelude.{◌≡◌, Bool, ℕ, eqb, ℤ}
+use Rattle.std.specs.Prelude.{◌≡◌, Bool, ℕ, eqb, ℤ, if◌then◌else◌}
 use Rattle.std.proofs.Math.Path.{refl}
 use Rattle.std.proofs.Common.{sym, subst, ◌∙◌, eqb-true, eq-eqb}
 use Rattle.std.proofs.Math.Bool.{true, false}
 use Rattle.std.proofs.Math.Dec.{T}
-use Rattle.rules.specs.Stages.{if◌then◌else◌}
 use Rattle.rules.specs.Number.{is_zero}
 use Rattle.rules.specs.Tree.{Act, Par, Tree, act, at_loop, at_par, await, break, canrun, emit, every, fin, ifvar, loop, nop, par, seq}
 use Rattle.rules.specs.Memory.{Deed, Memory, does, quiet, raises, read}

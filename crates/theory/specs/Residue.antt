@@ -1,7 +1,6 @@
 -- What is left of a program while it runs: every step and every event leaves what is left of the same program.
-use Rattle.std.specs.Prelude.{◌≡◌, refl, Bool, true, false, ℕ, eqb, T, ℤ}
+use Rattle.std.specs.Prelude.{◌≡◌, refl, Bool, true, false, ℕ, eqb, T, ℤ, if◌then◌else◌}
 use Rattle.std.proofs.Common.{sym, ap, subst}
-use Rattle.rules.specs.Stages.{if◌then◌else◌}
 use Rattle.rules.specs.Number.{is_zero}
 use Rattle.rules.specs.Tree.{Par, Source, Tree, act, and, at_loop, at_par, await, break, canrun, emit, every, fin, ifvar, loop, nop, or, par, seq}
 use Rattle.rules.specs.Memory.{Memory, quiet, read}

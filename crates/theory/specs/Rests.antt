@@ -1,11 +1,11 @@
 -- At rest states are marks: marks that fit show the tree at rest, and a blocked tree shown is read off its states.
-use Rattle.std.specs.Prelude.{◌≡◌, Bool, true, false, ◌&&◌, ◌||◌, List, [], ◌∷◌, ◌++◌, ℕ, eqb, ltb, T, get_or}
+use Rattle.std.specs.Prelude.{◌≡◌, Bool, true, false, ◌&&◌, ◌||◌, List, [], ◌∷◌, ◌++◌, ℕ, eqb, ltb, T, get_or, if◌then◌else◌}
 use Rattle.std.proofs.Math.Path.{refl}
 use Rattle.std.proofs.Common.{sym, ap, subst, ◌∙◌, arith, eqb→eq, le-ltb}
 use Rattle.std.proofs.Math.Bool.{or-false}
 use Rattle.std.proofs.Math.Option.{Option, none, some}
 use Rattle.std.proofs.Math.Dec as Dec'
-use Rattle.rules.specs.Stages.{if◌then◌else◌, is_some}
+use Rattle.rules.specs.Stages.{is_some}
 use Rattle.rules.specs.Tree.{Par, Source, Tree, act, and, at_loop, at_par, await, break, canrun, emit, every, fin, ifvar, loop, nop, or, par, seq, span_of}
 use Rattle.rules.specs.Marks.{at_rest, marked, misfit, misfits, or_nop, par_misfit, rest_if, rest_loop, rest_of, rest_par, rest_seq, waits}
 use Rattle.rules.specs.Step.{blocked}

@@ -1,11 +1,10 @@
 -- The round on the engine's state: pushes and pops until level 0, the whole program resumed after each.
-use Rattle.std.specs.Prelude.{◌≡◌, Bool, List}
+use Rattle.std.specs.Prelude.{◌≡◌, Bool, List, if◌then◌else◌}
 use Rattle.std.proofs.Math.Path.{refl}
 use Rattle.std.proofs.Math.Bool.{true, false}
 use Prim.Native.Nat.{ℕ, zero, suc, ◌+◌, ◌-◌, max}
 use Rattle.std.proofs.Math.Dec.{eqb}
 use borrow.Author.Tests.{eq-eqb, ne_eqb}
-use Rattle.rules.specs.Stages.{if◌then◌else◌}
 use Rattle.rules.specs.Tree.{Tree}
 use Rattle.rules.specs.Step.{Event, input_event, internal_event, wakes}
 use Rattle.theory.specs.State.{Ops, How, idle, ended, broke, waiting, ringing, Walk, exec, resume, awake, still}

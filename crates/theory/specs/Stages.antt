@@ -1,9 +1,9 @@
 -- Stages that refuse nothing: each is passed at every place, and so are those after it.
-use Rattle.std.specs.Prelude.{◌≡◌, refl, Bool, true, false, List, [], ◌∷◌, ◌++◌, ℕ, zero, suc, ◌+◌, ◌≤◌, ◌<◌, eqb, T}
+use Rattle.std.specs.Prelude.{◌≡◌, refl, Bool, true, false, List, [], ◌∷◌, ◌++◌, ℕ, zero, suc, ◌+◌, ◌≤◌, ◌<◌, eqb, T, if◌then◌else◌}
 use Rattle.std.proofs.Common.{sym, subst, arith, eqb-true}
 use Rattle.std.proofs.Math.Option.{Option, none}
 use Rattle.std.proofs.lemmas.Bool.{eqb-false}
-use Rattle.rules.specs.Stages.{Refusal, Stage, failing, first_refusal, or_else, unless, if◌then◌else◌}
+use Rattle.rules.specs.Stages.{Refusal, Stage, failing, first_refusal, or_else, unless}
 use Rattle.theory.specs.Logic.{clash, T→true}
 
 -- ---- one stage before the others

@@ -1,9 +1,8 @@
 -- The engine's state, one number for each record, and the walks over it, each as the code carries it out.
 -- At a record's place: 0 idle, 1 waiting (the mark), 2 woken, 3 + m a @canrun of level m: an emit's own, or that of an and or or whose right has not started.
-use Rattle.std.specs.Prelude.{Bool, not, ◌&&◌, ◌||◌, List, ℕ, suc, ℤ, get_or, set}
+use Rattle.std.specs.Prelude.{Bool, not, ◌&&◌, ◌||◌, List, ℕ, suc, ℤ, get_or, set, if◌then◌else◌}
 use Rattle.std.proofs.Math.Bool.{true, false}
 use Rattle.std.proofs.Math.Dec.{eqb}
-use Rattle.rules.specs.Stages.{if◌then◌else◌}
 use Rattle.rules.specs.Number.{is_zero}
 use Rattle.rules.specs.Tree.{Act, Par, Source, Tree, act, and, at_loop, at_par, await, break, canrun, emit, every, fin, ifvar, loop, nop, or, par, seq}
 use Rattle.rules.specs.Memory.{Memory, does, effect, raises, read}

@@ -1,8 +1,8 @@
 -- Determinism: push, pop and the nested step as rules of a relation; the published `step` is that relation, so at most one description comes next.
-use Rattle.std.specs.Prelude.{◌≡◌, refl, Bool, true, false, ℕ, zero, suc, T}
+use Rattle.std.specs.Prelude.{◌≡◌, refl, Bool, true, false, ℕ, zero, suc, T, if◌then◌else◌}
 use Rattle.std.proofs.Common.{sym, subst, ◌∙◌}
 use Rattle.std.proofs.Math.Option.{Option, none, some}
-use Rattle.rules.specs.Stages.{if◌then◌else◌, option}
+use Rattle.rules.specs.Stages.{option}
 use Rattle.rules.specs.Tree.{Tree}
 use Rattle.rules.specs.Memory.{Deed, effect}
 use Rattle.rules.specs.Step.{Description, Event, Nested, moved, nested, nested_step, nop_or_blocked, pop, push, raised, step, step_at, stuck}

@@ -1,8 +1,7 @@
 -- A tree that is still: resume changes nothing there, and answers by whether anything lives.
-use Rattle.std.specs.Prelude.{◌≡◌, Bool, true, false, not, ◌&&◌, ◌||◌, List, ℕ, eqb, get_or}
+use Rattle.std.specs.Prelude.{◌≡◌, Bool, true, false, not, ◌&&◌, ◌||◌, List, ℕ, eqb, get_or, if◌then◌else◌}
 use Rattle.std.proofs.Math.Path.{refl}
 use Rattle.std.proofs.Common.{sym, ◌∙◌}
-use Rattle.rules.specs.Stages.{if◌then◌else◌}
 use Rattle.rules.specs.Tree.{Par, Tree, act, at_loop, at_par, await, break, canrun, emit, every, fin, ifvar, loop, nop, par, seq}
 use Rattle.theory.specs.Logic.{clash}
 use Rattle.theory.specs.State.{Ops, How, idle, waiting, Walk, walk, Then, exec, resume_if, resume_seq, resume_loop, resume_both, resume_held, resume, still_at, still}

@@ -1,8 +1,7 @@
 -- A clear on states: it runs what the clear of the tree shown runs, and leaves all idle.
-use Rattle.std.specs.Prelude.{◌≡◌, refl, Bool, true, false, not, ◌&&◌, ◌||◌, List, ℕ, suc, ◌+◌, get_or, set}
+use Rattle.std.specs.Prelude.{◌≡◌, refl, Bool, true, false, not, ◌&&◌, ◌||◌, List, ℕ, suc, ◌+◌, get_or, set, if◌then◌else◌}
 use Rattle.std.proofs.Common.{sym, ap, subst, ◌∙◌, arith, ne_eqb}
 use Rattle.std.proofs.lemmas.List.{set-get_or}
-use Rattle.rules.specs.Stages.{if◌then◌else◌}
 use Rattle.rules.specs.Number.{is_zero}
 use Rattle.rules.specs.Tree.{Tree, act, and, at_loop, at_par, await, break, canrun, emit, every, fin, ifvar, loop, nop, par, seq}
 use Rattle.rules.specs.Memory.{Memory, does, effect, read}

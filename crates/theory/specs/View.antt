@@ -1,7 +1,6 @@
 -- The tree shown as a function of the states: they show one tree at most.
-use Rattle.std.specs.Prelude.{◌≡◌, refl, Bool, true, false, ◌||◌, List, ℕ, ◌+◌, ◌-◌, eqb, get_or}
+use Rattle.std.specs.Prelude.{◌≡◌, refl, Bool, true, false, ◌||◌, List, ℕ, ◌+◌, ◌-◌, eqb, get_or, if◌then◌else◌}
 use Rattle.std.proofs.Common.{sym, ◌∙◌, arith, ne_eqb}
-use Rattle.rules.specs.Stages.{if◌then◌else◌}
 use Rattle.rules.specs.Tree.{Tree, act, and, at_loop, at_par, await, break, canrun, emit, every, fin, ifvar, loop, nop, par, seq}
 use Rattle.theory.specs.Still.{live}
 use Rattle.theory.specs.Frame.{Blank, Laid, leaf-own, stem-own, fork-own, part-blank, body-part, left-part, right-part}

@@ -1,9 +1,8 @@
 -- What the check's walk over a program says of the tree: stages 4, 5 and 7, and the counts N, E, D, P, Q.
-use Rattle.std.specs.Prelude.{◌≡◌, refl, Bool, not, ◌&&◌, ◌||◌, ℕ, ◌+◌, ◌≤◌, max, eqb, T, length}
+use Rattle.std.specs.Prelude.{◌≡◌, refl, Bool, not, ◌&&◌, ◌||◌, ℕ, ◌+◌, ◌≤◌, max, eqb, T, length, if◌then◌else◌}
 use Rattle.std.proofs.Common.{sym, ap, subst, ◌∙◌, arith, length-append}
 use Rattle.std.proofs.Math.Bool.{true, false}
 use mathlib.Core.List.{List, [], ◌∷◌, ◌++◌}
-use Rattle.rules.specs.Stages.{if◌then◌else◌}
 use Rattle.rules.specs.Tree.{Tree, act, and, assign, at_loop, at_par, await, break, canrun, compare, copy, divide, emit, every, fin, head_of, ifvar, increase, input, internal, loop, nop, or, output, par, seq, span_of, subtract}
 use Rattle.rules.specs.Check.{Around, Visit, a_fin, a_loop, an_every, count, deepest, endless_loop, hits, inside_every, is_kind, is_plain, loose_break, may_end, not_plain, outside_every, visit, walk}
 use Rattle.theory.specs.Logic.{or_cases, clash, nil-left, nil-right, or_right, false-not}

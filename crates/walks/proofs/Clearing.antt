@@ -1,5 +1,6 @@
 -- Settle and clear at the tree of a place, by the kind of its record.
 -- Assumes nothing.
+use Rattle.std.specs.Prelude.{if◌then◌else◌}
 use mathlib.Core.Path.{◌≡◌, refl, ap}
 use mathlib.Core.Bool.{Bool, true, false}
 use mathlib.Core.List.{List}
@@ -7,7 +8,6 @@ use mathlib.Core.Logic.{inl, inr}
 use Prim.Native.Nat.{ℕ, ◌+◌}
 use lib.Dec.{eqb}
 use lib.ListN.{get_or, set}
-use Rattle.rules.specs.Stages.{if◌then◌else◌}
 use Rattle.rules.specs.Tree.{Tree, Act, assign, increase, copy, subtract, compare, divide, output, input, internal, and, or, act_kind}
 use Rattle.rules.specs.Table.{kind_at, name_at, number_at, second_at}
 use Rattle.theory.specs.State.{swept, settle, sweep, sweep_own, sweep_either, sweep_held, sweep_both}

@@ -1,12 +1,12 @@
 -- A fresh tree at a place, by the kind of its record; and runs that differ in their memory.
 -- Assumes nothing.
+use Rattle.std.specs.Prelude.{if◌then◌else◌}
 use mathlib.Core.Path.{◌≡◌, refl, ap, sym, ◌∙◌}
 use mathlib.Core.Bool.{Bool, true, false}
 use mathlib.Core.List.{List}
 use Prim.Native.Nat.{ℕ, ◌+◌, ◌≤◌, ◌<◌}
 use native.Mathlib.Omega.{arith}
 use lib.ListN.{set}
-use Rattle.rules.specs.Stages.{if◌then◌else◌}
 use Rattle.rules.specs.Tree.{Tree, Act, assign, increase, copy, subtract, compare, divide, output, input, internal, Par, and, or, act_kind}
 use Rattle.rules.specs.Table.{kind_at, name_at, second_at}
 use Rattle.theory.specs.State.{How, ended, broke, waiting, ringing, Walk, walk, Then, exec, exec_seq, exec_loop, exec_par, then_right}

@@ -1,5 +1,6 @@
 -- Every listener of every event is counted; and where nobody listens, awake changes nothing.
 -- Assumes nothing.
+use Rattle.std.specs.Prelude.{if◌then◌else◌}
 use mathlib.Core.Path.{◌≡◌, refl, sym, ap, ◌∙◌}
 use mathlib.Core.Bool.{Bool, true, false, ◌&&◌}
 use mathlib.Core.List.{List}
@@ -9,7 +10,6 @@ use lib.Dec.{eqb, ltb}
 use lib.ListN.{length, get_or, set, length-set}
 use lib.Seq.{get_or-set_same, get_or-set_other}
 use borrow.Author.Tests.{eqb-true, eqb-false, eq-eqb, ne_eqb, lt-ltb, ltb-true, ltb-false}
-use Rattle.rules.specs.Stages.{if◌then◌else◌}
 use Rattle.rules.specs.Limits.{most_records}
 use Rattle.rules.specs.Table.{kind_at, name_at, span_at, second_at, records_of}
 use Rattle.rules.specs.Step.{wakes}

@@ -1,11 +1,11 @@
 -- Awake at the tree of a place, by the kind of its record.
 -- Assumes nothing.
+use Rattle.std.specs.Prelude.{if◌then◌else◌}
 use mathlib.Core.Path.{◌≡◌, refl}
 use mathlib.Core.Bool.{Bool, true, false}
 use mathlib.Core.List.{List}
 use Prim.Native.Nat.{ℕ, ◌+◌}
 use lib.Dec.{eqb}
-use Rattle.rules.specs.Stages.{if◌then◌else◌}
 use Rattle.rules.specs.Tree.{Tree}
 use Rattle.rules.specs.Table.{kind_at, name_at, number_at, second_at}
 use Rattle.rules.specs.Step.{wakes}

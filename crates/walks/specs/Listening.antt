@@ -1,6 +1,5 @@
 -- Where each event is awaited: of input events, then of internal ones, how far from place 256 the first listener stands, and the place behind the last; 0 and 0 where none is.
-use Rattle.std.specs.Prelude.{◌≡◌, Bool, true, false, List, ℕ, zero, suc, ◌+◌, ◌-◌, ◌*◌, ◌≤◌, ◌<◌, max, ltb, get_or, set}
-use Rattle.rules.specs.Stages.{if◌then◌else◌}
+use Rattle.std.specs.Prelude.{◌≡◌, Bool, true, false, List, ℕ, zero, suc, ◌+◌, ◌-◌, ◌*◌, ◌≤◌, ◌<◌, max, ltb, get_or, set, if◌then◌else◌}
 use Rattle.rules.specs.Limits.{most_records}
 use Rattle.rules.specs.Table.{kind_at, name_at, second_at, records_of}
 use Rattle.rules.specs.Step.{wakes}

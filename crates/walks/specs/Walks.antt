@@ -1,6 +1,5 @@
 -- The walks of the theory over the arrays of the code, and what the contracts of the walks are said with.
-use Rattle.std.specs.Prelude.{◌≡◌, Bool, true, false, ◌||◌, ◌&&◌, List, ◌⊎◌, ℕ, ◌≤◌, eqb, ltb, ℤ}
-use Rattle.rules.specs.Stages.{if◌then◌else◌}
+use Rattle.std.specs.Prelude.{◌≡◌, Bool, true, false, ◌||◌, ◌&&◌, List, ◌⊎◌, ℕ, ◌≤◌, eqb, ltb, ℤ, if◌then◌else◌}
 use Rattle.rules.specs.Limits.{most_records}
 use Rattle.rules.specs.Tree.{Source, input, internal, Par, and, or, by_source}
 use Rattle.rules.specs.Table.{name_at, number_at, records_of}

@@ -1,6 +1,6 @@
 -- The marks before index i are 0.
+use Rattle.std.specs.Prelude.{if◌then◌else◌}
 use Rattle.std.proofs.Common.{sym, ap, ◌∙◌, Bool, arith}
-use Rattle.rules.specs.Stages.{if◌then◌else◌}
 use Rattle.calls.proofs.Passing.{zero-here, nonzero-here, zeros-over}
 use Rattle.calls.proofs.hold.finished.Goals as goal
 
