@@ -14,7 +14,7 @@ use lib.Seq.{ext_get_or, get_or-take, length-take-le}
 use Rattle.rules.specs.Stages.{Refusal, Stage, first_refusal, refusal}
 use Rattle.rules.specs.Limits.{most_records, top_total, variables}
 use Rattle.rules.specs.Table.{kind_at, records_of}
-use Rattle.rules.specs.Check.{announced, refused}
+use Rattle.rules.specs.Check.{announced}
 use Rattle.rules.specs.Marks.{all_zero, marks_stages, may_mark}
 use Rattle.rules.specs.Calls.{Lent, Outcome, Taken, answers, onto, out_bytes, refuse, tested}
 use Rattle.theory.specs.Logic.{both_left, or_cases}

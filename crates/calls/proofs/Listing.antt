@@ -19,9 +19,9 @@ use Rattle.rules.specs.Calls.{Lent, Outcome, Sent, Taken, answers, none_taken, o
 use Rattle.rules.specs.Lists.{list_call, list_fails, sent_from, take_events}
 use Rattle.theory.specs.Logic.{clash}
 use Rattle.theory.specs.Stages.{next}
-use Rattle.theory.specs.Round.{Round, react}
+use Rattle.theory.specs.Round.{react}
 use Rattle.table.specs.Places.{tree_of}
-use Rattle.memory.specs.Arrays.{Arrays, arrays}
+use Rattle.memory.specs.Arrays.{arrays}
 use Rattle.acceptance.specs.declared.Refusal as Code
 use Rattle.walks.specs.Walks.{array_ops}
 use Rattle.engine.specs.Running.{most_rounds, round_of}

@@ -14,7 +14,7 @@ use Rattle.rules.specs.Table.{records_of}
 use Rattle.rules.specs.Check.{announced, table_stages}
 use Rattle.rules.specs.Marks.{length_stage, marks_stages}
 use Rattle.rules.specs.Run.{start}
-use Rattle.rules.specs.Calls.{Lent, Outcome, answers, event_stage, join_run, none_taken, onto, react_call, room_stage, start_call, take_event, vars_stage}
+use Rattle.rules.specs.Calls.{Outcome, answers, event_stage, join_run, none_taken, onto, react_call, room_stage, start_call, take_event, vars_stage}
 use Rattle.theory.specs.Stages.{first-append, next, unless-true}
 use Rattle.theory.proofs.Calls.{enough-vars, none-held, roomy}
 use Rattle.theory.specs.Round.{begin, react}
