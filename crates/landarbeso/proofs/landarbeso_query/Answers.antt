@@ -2,11 +2,10 @@
 use Rattle.landarbeso.proofs.Verdicts.{query-refused, query-asked, passed-marks}
 use Rattle.landarbeso.proofs.landarbeso_query.Goals as goal
 
-pub ask-asked-requires-clause-sound : goal.ask-asked-requires-clause-sound
-ask-asked-requires-clause-sound c = (passed-marks c.args.table.now c.args.marks.now c.marks_stages-checked.ensures c.in-Accepted.is).0
-
-pub ask-asked-requires-clause-marks_value : goal.ask-asked-requires-clause-marks_value
-ask-asked-requires-clause-marks_value c = (passed-marks c.args.table.now c.args.marks.now c.marks_stages-checked.ensures c.in-Accepted.is).1
+pub ask-asked-requires : goal.ask-asked-requires
+ask-asked-requires c =
+    let passed = passed-marks c.args.table.now c.args.marks.now c.marks_stages-checked.ensures c.in-Accepted.is in
+    record { sound = passed.0; marks_value = passed.1 }
 
 pub returns-in-Refused : goal.returns-in-Refused
 returns-in-Refused c = query-refused c.args.table.now c.args.marks.now c.marks_stages-checked.ensures c.in-Refused.is
