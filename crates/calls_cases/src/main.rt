@@ -74,8 +74,9 @@ fn start(
     let mut out = [0u8; 64];
     text(rt, label)?;
     let answer = calls::start(table, marks, vars, &mut out);
+    let outputs = answer.outputs;
     answered(rt, answer)?;
-    first_output(rt, answer.outputs, &out)?;
+    first_output(rt, outputs, &out)?;
     text(rt, b", marks")?;
     marked(rt, marks)?;
     text(rt, b"\n")
@@ -93,8 +94,9 @@ fn react(
     let mut out = [0u8; 64];
     text(rt, label)?;
     let answer = calls::react(table, marks, vars, event, value, &mut out);
+    let outputs = answer.outputs;
     answered(rt, answer)?;
-    first_output(rt, answer.outputs, &out)?;
+    first_output(rt, outputs, &out)?;
     text(rt, b", marks")?;
     marked(rt, marks)?;
     text(rt, b"\n")

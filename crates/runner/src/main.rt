@@ -17,8 +17,9 @@ fn report(rt: &impl Print, event: u32, value: i32, answer: Answer, out: &[u8]) -
         print::refusal(rt, answer.refused, answer.place)?;
         return Ok(false);
     }
+    let outputs = answer.outputs;
     print::call(rt, event, value, answer)?;
-    print::outputs(rt, out, answer.outputs)?;
+    print::outputs(rt, out, outputs)?;
     Ok(true)
 }
 

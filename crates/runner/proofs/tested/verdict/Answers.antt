@@ -14,7 +14,7 @@ returns-then-announced-gt-RUNNER_OUTPUTS c = sym (no_room c.args.table.now c.arg
 pub returns-in-At : goal.returns-in-At
 returns-in-At c =
     sym (bad-event c.args.table.now c.args.events.now (c.check-checked.ensures ∙ checks c.args.table.now) c.in-Accepted.is
-      c.if-announced-gt-RUNNER_OUTPUTS.false c.first_bad.ensures.0 c.in-At.is)
+    c.if-announced-gt-RUNNER_OUTPUTS.false c.first_bad.ensures.0 c.in-At.is)
 
 -- src/tested.rt:11:1
 pub returns-in-Refused : goal.returns-in-Refused
@@ -25,4 +25,4 @@ returns-in-Refused c =
 pub returns-in_default : goal.returns-in_default
 returns-in_default c =
     all-well c.args.table.now c.args.events.now (c.check-checked.ensures ∙ checks c.args.table.now) c.in-Accepted.is
-      c.if-announced-gt-RUNNER_OUTPUTS.false c.first_bad.ensures.0 c.in_default.is
+    c.if-announced-gt-RUNNER_OUTPUTS.false c.first_bad.ensures.0 c.in_default.is
