@@ -1,16 +1,20 @@
 // A file of the current folder.
 ghost use Rattle.std.specs.Prelude.{◌≡◌, ◌≤◌, length, take};
 
-use std::fs;
 use std::io::Read;
 use std::rt::Files;
+use std::{fs, str};
 
-// The bytes at the front of the buffer that the file filled; none where it is missing. A read that fails ends the file.
-pub fn read(rt: &impl Files, name: &str, buffer: &mut [u8]) -> usize
+// The bytes at the front of the buffer that the file filled; none where it is missing, or its name is no text. A read that fails ends
+// the file.
+pub fn read(rt: &impl Files, name: &[u8], buffer: &mut [u8]) -> usize
     ensures within { result ≤ length buffer.new }
     ensures taken { length (take result buffer.new) ≡ result }
 {
-    let Ok(mut file) = fs::open(rt, name) else {
+    let Ok(text) = str::from_utf8(name) else {
+        return 0;
+    };
+    let Ok(mut file) = fs::open(rt, text) else {
         return 0;
     };
     let mut done = 0;

@@ -83,8 +83,8 @@ fn run_tested(rt: &impl Print, table: &[u8], events: &[u8]) -> io::Result<()> {
 
 fn main(rt: HostRuntime) -> io::Result<()> {
     let mut table = [0u8; Limits::TABLE_BYTES + 1];
-    let table_len = file::read(&rt, "program.rec", &mut table);
+    let table_len = file::read(&rt, b"program.rec", &mut table);
     let mut events = [0u8; Limits::LIST_BYTES + 1];
-    let events_len = file::read(&rt, "events.rec", &mut events);
+    let events_len = file::read(&rt, b"events.rec", &mut events);
     run_tested(&rt, &table[..table_len], &events[..events_len])
 }
