@@ -15,7 +15,7 @@ add_total n more = min top_total (n + more)
 abbrev pub add_totals : Totals → ℕ → ℕ → Totals
 add_totals t r s = record { reactions = add_total t.reactions r; steps = add_total t.steps s }
 
--- what `count` does to the record that is lent: so many reactions and steps are added; and the totals it finds are below the top, as 64 bits are
+-- what `with` and `count` do to totals: so many reactions and steps are added; and the totals they find are at most the top, as 64 bits are
 pub record Counted (t : Totals) (r s : ℕ) (left : Totals) : Type 0 where
   pub sum : left ≡ add_totals t r s
   pub reactions-fit : t.reactions ≤ top_total
