@@ -1,0 +1,8 @@
+-- The tree that stands where a construct does.
+use Rattle.std.specs.Prelude.{ℕ, List}
+use Rattle.rules.specs.Tree.{Tree}
+use Rattle.table.specs.Places.{tree_of}
+use Rattle.table.specs.declared.construct.Construct.{Construct}
+
+abbrev pub tree : Construct → Tree
+tree c = tree_of c.table.now c.place
