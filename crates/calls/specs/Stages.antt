@@ -1,13 +1,11 @@
 -- The stages that a call tests, and their verdict.
-use Rattle.std.specs.Prelude.{List, [], ◌∷◌, ◌++◌, ℕ, ◌<◌, ℤ, pos}
+use Rattle.std.specs.Prelude.{List, [], ◌∷◌, ◌++◌, ℕ, ◌<◌, ◌^◌, ℤ, pos, Option, None, Some}
 use Rattle.rules.specs.Stages.{Stage, first_refusal}
 use Rattle.rules.specs.Check.{Verdict, verdict, announced, table_stages}
 use Rattle.rules.specs.Marks.{marks_stages}
 use Rattle.rules.specs.Calls.{vars_stage}
 use Rattle.rules.specs.Calls as Rules
 use Rattle.rules.specs.Lists.{list_stages}
-use Rattle.table.specs.declared.Found.{Found}
-use Rattle.table.specs.declared.Found.TheVariants.{At, Nothing}
 use Rattle.calls.specs.Answers.{lent, sent_of}
 
 -- refused by the first stage that fails, else accepted with the announced numbers
@@ -30,6 +28,6 @@ abbrev pub standing_stages : List ℕ → List ℕ → List ℤ → List Stage
 standing_stages b m v = table_stages b ++ (marks_stages b m ++ (vars_stage v ∷ []))
 
 -- a place that was found is small
-abbrev pub Low : Found → Type 0
-Low (At i) = i < 4294967296
-Low Nothing = Unit {0}
+abbrev pub Low : Option ℕ → Type 0
+Low (Some i) = i < 2 ^ 32
+Low None = Unit {0}
