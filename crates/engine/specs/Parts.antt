@@ -3,9 +3,9 @@ use Rattle.std.specs.Prelude.{◌≡◌, Bool, true, ◌&&◌, List, ◌⊎◌, 
 use Rattle.rules.specs.Table.{kind_at, records_of}
 use Rattle.theory.specs.State.{Walk, resume, still_at}
 use Rattle.theory.specs.Part.{Only}
-use Rattle.table.specs.Places.{Place, tree_of}
+use Rattle.table.specs.Places.{Place, Spot, tree_of}
 use Rattle.memory.specs.Arrays.{Arrays}
-use Rattle.walks.specs.Walks.{Spot, array_ops}
+use Rattle.walks.specs.Walks.{array_ops}
 
 -- so many states from place i on are idle
 unfoldable pub idling : List ℕ → ℕ → ℕ → Bool

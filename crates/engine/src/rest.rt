@@ -1,83 +1,46 @@
 // A level is done where nothing is left to run.
 ghost use Rattle.std.specs.Prelude.{◌≡◌, ◌≤◌};
 ghost use Rattle.theory.specs.State.{still_at, still};
-ghost use Rattle.table.specs.Places.{tree_of};
-ghost use Rattle.walks.specs.Walks.{Spot};
-ghost use Rattle.engine.specs.Parts.{Rest};
+ghost use Rattle.table.specs.Constructs.{tree};
+ghost use Rattle.engine.specs.Parts.{Runs};
 
 use rules::Limits;
-use table::{children_at, kind_at, second_at};
+use table::{Construct, Kind};
+use walks::Reach;
 
 // Neither woken nor n, a turn at this level.
 fn at_rest(state: u32, n: u32) -> bool
     ensures { result ≡ still_at n state }
 {
-    if state == 2 {
+    state != 2 && state != n
+}
+
+// Blocked, or nothing lives: each state at the construct and below rests.
+pub fn blocked(at: Construct<'_>, n: u32, states: &[u32; Limits::RECORDS]) -> bool
+    ensures { result ≡ still n (tree at.entry) states.now }
+{
+    if !at_rest(states[at.place], n) {
         return false;
     }
-    state != n
-}
-
-// Blocked, or nothing lives: each state at place i and below rests.
-#[cycle(blocked)]
-pub fn blocked(table: &[u8], i: usize, n: u32, st: &[u32; Limits::RECORDS]) -> bool
-    requires { Spot table.now i }
-    ensures { result ≡ still n (tree_of table.now i) st.now }
-{
-    if !at_rest(st[i], n) {
-        return false;
-    }
-    if children_at(table, i) == 2 {
-        if blocked_part(table, i + 1, n, st) {
-            let j = second_at(table, i);
-            return blocked_part(table, j, n, st);
+    match at.kind() {
+        Kind::If | Kind::Sequence | Kind::Par(_) => {
+            blocked(at.first(), n, states) && blocked(at.second(), n, states)
         }
-        return false;
+        Kind::Loop => blocked(at.first(), n, states),
+        _ => true,
     }
-    if kind_at(table, i) == 14 {
-        return blocked_part(table, i + 1, n, st);
-    }
-    true
 }
 
-// The same of a part: one without children takes no walk.
-#[cycle(blocked)]
-fn blocked_part(table: &[u8], i: usize, n: u32, st: &[u32; Limits::RECORDS]) -> bool
-    requires { Spot table.now i }
-    ensures { result ≡ still n (tree_of table.now i) st.now }
+// From the first place that runs at this level on, and before the place behind the last.
+pub fn running(program: Construct<'_>, n: u32, states: &[u32; Limits::RECORDS]) -> Reach
+    ensures { Runs program.entry.table.now n states.now result.from result.to }
 {
-    if children_at(table, i) == 0 {
-        return at_rest(st[i], n);
+    let records = program.table.len() / Limits::RECORD_BYTES;
+    let used = &states[..records];
+    let first = used.iter().position(|state| !at_rest(*state, n));
+    let last = used.iter().rposition(|state| !at_rest(*state, n));
+    Reach {
+        from: first.unwrap_or(records),
+        to: last.map_or(0, |last| last + 1),
     }
-    blocked(table, i, n, st)
-}
-
-// The first place that runs at this level, or the number of records.
-pub fn first_runs(records: usize, n: u32, st: &[u32; Limits::RECORDS]) -> usize
-    requires { records ≤ 256 }
-    ensures { (result ≤ records) × Rest n st.now 0 result }
-{
-    let mut i: usize = 0;
-    while i < records {
-        if !at_rest(st[i], n) {
-            return i;
-        }
-        i += 1;
-    }
-    records
-}
-
-// The place behind the last one that runs, from `from` on.
-pub fn behind_last(from: usize, records: usize, n: u32, st: &[u32; Limits::RECORDS]) -> usize
-    requires { records ≤ 256 }
-    ensures { Rest n st.now result records }
-{
-    let mut i = records;
-    while from < i {
-        if !at_rest(st[i - 1], n) {
-            return i;
-        }
-        i -= 1;
-    }
-    i
 }

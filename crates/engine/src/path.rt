@@ -1,0 +1,68 @@
+// The way down from the root to a part, as the places of the constructs that hold it.
+ghost use Rattle.std.specs.Prelude.{◌≡◌, ◌+◌, ◌≤◌, ◌<◌, get_or, set};
+ghost use Rattle.table.specs.Places.{Spot};
+ghost use Rattle.engine.specs.Parts.{Along};
+
+use rules::Limits;
+use table::Construct;
+
+pub struct Path<'a> {
+    table: &'a [u8],
+    places: [u16; Limits::RECORDS],
+    steps: usize,
+    ghost along: { Along table.now places steps },
+    ghost low: { steps ≤ get_or places steps 0 },
+}
+
+impl<'a> Path<'a> {
+    // No step: the construct itself.
+    pub fn from(at: Construct<'a>) -> Path<'a>
+        requires { at.place < 256 }
+        ensures table { result.table.now ≡ at.entry.table.now }
+        ensures steps { result.steps ≡ 0 }
+        ensures root { get_or result.places 0 0 ≡ at.entry.place }
+    {
+        let mut places = [0; Limits::RECORDS];
+        places[0] = at.place as u16;
+        Path {
+            table: at.table,
+            places,
+            steps: 0,
+        }
+    }
+
+    // One step more, down to a part.
+    pub fn push(&mut self, part: Construct<'a>)
+        requires table { part.table.now ≡ self.old.table.now }
+        requires below { get_or self.old.places self.old.steps 0 < part.place }
+    {
+        self.steps += 1;
+        self.places[self.steps] = part.place as u16;
+    }
+
+    pub fn steps(&self) -> usize
+        ensures { result ≡ self.now.steps }
+    {
+        self.steps
+    }
+
+    // The construct so many steps down.
+    pub fn at(&self, step: usize) -> Construct<'a>
+        requires { step ≤ self.now.steps }
+        ensures table { result.table.now ≡ self.now.table.now }
+        ensures place { result.place ≡ get_or self.now.places step 0 }
+    {
+        Construct {
+            table: self.table,
+            place: usize::from(self.places[step]),
+        }
+    }
+
+    // The part that it leads to.
+    pub fn end(&self) -> Construct<'a>
+        ensures table { result.table.now ≡ self.now.table.now }
+        ensures place { result.place ≡ get_or self.now.places self.now.steps 0 }
+    {
+        self.at(self.steps)
+    }
+}
