@@ -1,34 +1,109 @@
 // A list of events. An event is laid out as a record of the table: its number at byte 0, its value at bytes 4 to 7.
-ghost use Rattle.std.specs.Prelude.{◌≡◌, ◌&&◌, ◌+◌, ◌/◌, ◌≤◌, ◌<◌, leb, ltb, length, set, Ok};
+ghost use Rattle.std.specs.Prelude.{◌≡◌, ◌/◌, ◌≤◌, ◌<◌, length, Ok};
 ghost use Rattle.std.proofs.Math.Option.{none};
 ghost use Rattle.rules.specs.Stages.{first_refusal};
-ghost use Rattle.rules.specs.Limits.{record_bytes};
+ghost use Rattle.rules.specs.Limits.{most_records, record_bytes};
 ghost use Rattle.rules.specs.Table.{kind_at, number_at, records_of};
 ghost use Rattle.rules.specs.Check as Rules;
 ghost use Rattle.rules.specs.Lists.{list_call};
 ghost use Rattle.acceptance.specs.Counts.{announced_of};
-ghost use Rattle.calls.specs.Answers.{Ran, lent, stopped_refusal};
+ghost use Rattle.calls.specs.Answers.{Ran, lent};
 ghost use Rattle.calls.specs.Stages.{run_stages};
-ghost use Rattle.calls.specs.Holding.{stop_at};
+ghost use Rattle.calls.specs.Holding.{TookAll};
 
 use crate::Listed;
 use crate::hold::{finish, resting};
-use crate::stages::run_stages;
+use crate::stages::{has_room, run_stages};
 use acceptance::Announced;
-use engine::Rounded;
 use rules::Limits;
 use table::{Construct, Refusal, Stage};
 use walks::{Listeners, Running};
 
-// Refusal 12 at the first event not taken; none where all were.
-fn stop_at(events: &[u8], taken: usize) -> Option<Refusal>
-    requires { taken ≤ 8192 }
-    ensures { stopped_refusal result ≡ stop_at (length events.now / record_bytes) taken }
-{
-    if taken < events.len() / Limits::RECORD_BYTES {
-        return Some(Refusal::at(Stage::Stopped, taken));
+// An event of a list.
+struct Event {
+    number: usize,
+    value: i32,
+}
+
+impl Event {
+    fn at(events: &[u8], place: usize) -> Event
+        requires { place < records_of events.now }
+        ensures number { result.number ≡ kind_at events.now place }
+        ensures value { result.value ≡ number_at events.now place }
+    {
+        Event {
+            number: usize::from(events[Limits::RECORD_BYTES * place]),
+            value: table::number_at(events, place),
+        }
     }
-    None
+}
+
+// How many events were taken, what they counted, and refusal 12 at the first that was not taken.
+pub struct Took {
+    pub events: u64,
+    pub emitted: u64,
+    pub highest: u32,
+    pub stopped: Option<Refusal>,
+}
+
+// The events are taken one by one, each while the room has the announced outputs behind those made.
+fn take_events(
+    program: Construct<'_>,
+    announced: Announced,
+    listeners: &Listeners,
+    events: &[u8],
+    run: &mut Running,
+    out: &mut [u8],
+) -> Took {
+    let mut emitted = 0;
+    let mut highest = 0;
+    for place in 0..events.len() / Limits::RECORD_BYTES {
+        if !has_room(run.memory.outputs, announced.outputs, out) {
+            let stopped = Some(Refusal::at(Stage::Stopped, place));
+            return Took {
+                events: place as u64,
+                emitted,
+                highest,
+                stopped,
+            };
+        }
+        let event = Event::at(events, place);
+        run.memory.vars[0] = event.value;
+        let round = engine::react(program, event.number, announced.steps, listeners, run, out);
+        emitted += round.emitted;
+        highest = highest.max(round.highest);
+    }
+    Took {
+        events: (events.len() / Limits::RECORD_BYTES) as u64,
+        emitted,
+        highest,
+        stopped: None,
+    }
+}
+
+// A list whose stages pass.
+fn run_tested(
+    table: &[u8],
+    announced: Announced,
+    marks: &mut [u8],
+    vars: &mut [i32],
+    events: &[u8],
+    out: &mut [u8],
+) -> Listed
+    requires events_value { first_refusal (run_stages table.now marks.old vars.old events.now) ≡ none }
+    requires announced_value { announced_of announced ≡ Rules.announced table.now }
+    ensures { Ran (list_call table.now (lent marks.old vars.old out.old) events.now) (Ok result) marks.new vars.new out.new }
+{
+    let program = Construct { table, place: 0 };
+    let listeners = Listeners::of_program(table);
+    let mut run = resting(marks, vars);
+    let took = take_events(program, announced, &listeners, events, &mut run, out);
+    let done = finish(took.emitted, took.highest, &run, marks, vars);
+    Listed {
+        done,
+        taken: took.events,
+        stopped: took.stopped,
+    }
 }
 
 pub fn run_list(
