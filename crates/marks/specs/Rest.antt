@@ -49,7 +49,7 @@ records_by h n l r w = if eqb h 0 then l else (if eqb h 1 then r else head_bytes
 
 -- how many records remain at each place from i on
 abbrev pub Rests : List ℕ → List ℕ → ℕ → List ℕ → Type 0
-Rests b m i rests = Known (λ j n. n ≡ rest_span m (tree_of b j)) (records_of b) i rests
+Rests b m i rests = Known 0 (λ j n. n ≡ rest_span m (tree_of b j)) (records_of b) i rests
 
 -- room in a buffer of so many bytes, from record `at` on, for what remains of the construct at place i
 pub record Room (b m rests : List ℕ) (i at bytes : ℕ) : Type 0 where

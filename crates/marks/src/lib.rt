@@ -2,6 +2,7 @@
 #![tactic(auto)]
 
 mod fitting;
+mod marked;
 mod query;
 mod remaining;
 
