@@ -20,7 +20,7 @@ act_of Output = output
 
 -- the act of a kind from 1 to 7, or the number of any other
 abbrev pub ReadsAct : ℕ → Result Act NoAct → Type 0
-ReadsAct k r = MatchResult r (λ a. act_kind (act_of a) ≡ k) (λ e. e.0 ≡ k)
+ReadsAct k r = MatchResult r (λ a. act_kind (act_of a) ≡ k) (λ e. (e.0 ≡ k) × (0 < k → 7 < k))
 
 -- with an output room
 unfoldable pub arrays_of : Memory → List ℕ → Arrays

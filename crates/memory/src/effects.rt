@@ -28,7 +28,11 @@ fn one_more(count: u64) -> u64
 fn named(number: i32) -> usize
     ensures { result ≡ mag number }
 {
-    if number < 0 { !number as usize } else { number as usize }
+    if number < 0 {
+        !number as usize
+    } else {
+        number as usize
+    }
 }
 
 // The output after n others: name, three zeros, value, where the room has them.

@@ -45,10 +45,12 @@ impl<'a> Construct<'a> {
         record::span_at(self.table, self.place)
     }
 
+    // Its first child, whose span is less.
     pub fn first(self) -> Construct<'a>
         requires { 1 ≤ children_of (kind_at self.table.now self.place) }
         ensures table { result.table.now ≡ self.entry.table.now }
         ensures place { result.place ≡ self.entry.place + 1 }
+        ensures smaller { span_at result.table.now result.place < span_at self.entry.table.now self.entry.place }
     {
         Construct {
             table: self.table,
@@ -56,10 +58,12 @@ impl<'a> Construct<'a> {
         }
     }
 
+    // Its second child, whose span is less too.
     pub fn second(self) -> Construct<'a>
         requires { 2 ≤ children_of (kind_at self.table.now self.place) }
         ensures table { result.table.now ≡ self.entry.table.now }
         ensures place { result.place ≡ second_at self.entry.table.now self.entry.place }
+        ensures smaller { span_at result.table.now result.place < span_at self.entry.table.now self.entry.place }
     {
         Construct {
             table: self.table,
