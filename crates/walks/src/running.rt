@@ -1,0 +1,20 @@
+// What a running program changes, and how a walk of it ends.
+use memory::Memory;
+use rules::Limits;
+
+// One state for each record, and the memory.
+#[derive(Drop)]
+pub struct Running {
+    pub states: [u32; Limits::RECORDS],
+    pub memory: Memory,
+}
+
+// How a walk ended: nothing lived there; it has ended, broken, is blocked, or has an event pending.
+#[derive(Clone, Copy, Debug, PartialEq, Eq)]
+pub enum How {
+    Idle,
+    Ended,
+    Broke,
+    Waiting,
+    Ringing(usize),
+}
