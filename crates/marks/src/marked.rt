@@ -69,6 +69,7 @@ impl<'a> Marked<'a> {
         ensures table { result.table.now ≡ self.entry.table.now }
         ensures marks { result.marks.now ≡ self.entry.marks.now }
         ensures place { result.place ≡ self.entry.place + 1 }
+        ensures smaller { span_at result.table.now result.place < span_at self.entry.table.now self.entry.place }
     {
         Marked {
             table: self.table,
@@ -82,6 +83,7 @@ impl<'a> Marked<'a> {
         ensures table { result.table.now ≡ self.entry.table.now }
         ensures marks { result.marks.now ≡ self.entry.marks.now }
         ensures place { result.place ≡ second_at self.entry.table.now self.entry.place }
+        ensures smaller { span_at result.table.now result.place < span_at self.entry.table.now self.entry.place }
     {
         Marked {
             table: self.table,

@@ -1,23 +1,108 @@
-// The remaining program: how many records of each construct remain, and writing them.
-ghost use Rattle.std.specs.Prelude.{◌≡◌, ◌*◌, ◌<◌, ◌≤◌, length};
+// The remaining program: how many records it has, and writing them.
+ghost use Rattle.std.specs.Prelude.{◌≡◌, ◌+◌, ◌*◌, ◌<◌, ◌≤◌, length};
 ghost use Rattle.std.proofs.Math.Option.{none};
+ghost use Rattle.std.proofs.lemmas.List.Edits.{sets};
 ghost use Rattle.rules.specs.Stages.{first_refusal};
 ghost use Rattle.rules.specs.Limits.{record_bytes};
 ghost use Rattle.rules.specs.Tree.{span_of};
-ghost use Rattle.rules.specs.Table.{program_of};
+ghost use Rattle.rules.specs.Table.{span_at, records_of, program_of};
 ghost use Rattle.rules.specs.Marks.{marks_stages, at_rest};
 ghost use Rattle.rules.specs.Calls.{onto};
 ghost use Rattle.rules.specs.Remaining.{records_for};
+ghost use Rattle.table.specs.Places.{tree_of};
 ghost use Rattle.marks.specs.Fitting.{Sound};
+ghost use Rattle.marks.specs.Rest.{rest_span, rest_records, head_bytes, Rests};
 
-// How many records remain of a program.
+use crate::counted::Counted;
+use crate::marked::Marked;
+use crate::resting::{Head, Rest, count_at, rest_at};
+use rules::Limits;
+
+// How many records remain at each place, from the last place on.
+fn rests_of(table: &[u8], marks: &[u8]) -> [u16; Limits::RECORDS]
+    requires sound { Sound table.now }
+    requires sized { length marks.now ≡ records_of table.now }
+    ensures { Rests table.now marks.now 0 result }
+{
+    let mut rests = [0u16; Limits::RECORDS];
+    for place in (0..table.len() / Limits::RECORD_BYTES).rev() {
+        let at = Marked {
+            table,
+            marks,
+            place,
+        };
+        rests[place] = count_at(at, &rests) as u16;
+    }
+    rests
+}
+
+// Records, from record place `at` of a buffer on.
+fn write_records(records: &[u8], out: &mut [u8], at: usize)
+    requires { record_bytes * at + length records.now ≤ length out.old }
+    ensures { out.new ≡ sets out.old (record_bytes * at) records.now }
+{
+    let from = Limits::RECORD_BYTES * at;
+    out[from..from + records.len()].copy_from_slice(records);
+}
+
+// A record with name and number 0.
+fn write_head(out: &mut [u8], at: usize, kind: u8, span: usize)
+    requires room { record_bytes * (at + 1) ≤ length out.old }
+    requires two_bytes { span < 65536 }
+    ensures { out.new ≡ sets out.old (record_bytes * at) (head_bytes kind span) }
+{
+    let [low, high] = (span as u16).to_le_bytes();
+    let record: [u8; Limits::RECORD_BYTES] = [kind, 0, low, high, 0, 0, 0, 0];
+    write_records(&record, out, at);
+}
+
+// A construct, record for record.
+fn write_whole(part: Marked<'_>, out: &mut [u8], at: usize)
+    requires sound { Sound part.table.now }
+    requires room { record_bytes * (at + span_at part.table.now part.place) ≤ length out.old }
+    ensures { out.new ≡ sets out.old (record_bytes * at) (records_for (tree_of part.entry.table.now part.entry.place)) }
+{
+    let from = Limits::RECORD_BYTES * part.place;
+    let bytes = Limits::RECORD_BYTES * part.span();
+    write_records(&part.table[from..from + bytes], out, at);
+}
+
+// What remains of a construct.
+fn write_rest(part: Counted<'_>, out: &mut [u8], at: usize)
+    requires { record_bytes * (at + rest_span part.at.marks.now (tree_of part.at.table.now part.at.place)) ≤ length out.old }
+    ensures { out.new ≡ sets out.old (record_bytes * at) (rest_records part.entry.at.marks.now (tree_of part.entry.at.table.now part.entry.at.place)) }
+{
+    match rest_at(part.at, part.rests) {
+        Rest::Nothing => {}
+        Rest::Whole => write_whole(part.at, out, at),
+        Rest::Only(only) => write_rest(only, out, at),
+        Rest::Both(head, first, other) => {
+            write_head(out, at, head.number(), part.count());
+            write_rest(first, out, at + 1);
+            let behind = at + 1 + first.count();
+            match head {
+                Head::Par(_) => write_rest(other, out, behind),
+                _ => write_whole(other.at, out, behind),
+            }
+        }
+    }
+}
+
+// How many records remain of a program: of one that is finished, the one that does nothing.
 pub fn remaining_span(table: &[u8], marks: &[u8]) -> usize
     requires sound { Sound table.now }
     requires passes { first_refusal (marks_stages table.now marks.now) ≡ none }
     ensures records { result ≡ span_of (at_rest marks.now (program_of table.now)) }
     ensures two_bytes { result < 65536 }
 {
-    1
+    let rests = rests_of(table, marks);
+    let at = Marked {
+        table,
+        marks,
+        place: 0,
+    };
+    let program = Counted { at, rests: &rests };
+    program.count().max(1)
 }
 
 // The remaining program, at the front of a buffer that has room for it; the answer counts its records.
@@ -29,5 +114,18 @@ pub fn write_remaining(table: &[u8], marks: &[u8], out: &mut [u8]) -> usize
     ensures two_bytes { result < 65536 }
     ensures written { out.new ≡ onto (records_for (at_rest marks.now (program_of table.now))) out.old }
 {
-    1
+    let rests = rests_of(table, marks);
+    let at = Marked {
+        table,
+        marks,
+        place: 0,
+    };
+    let program = Counted { at, rests: &rests };
+    let span = program.count();
+    if span == 0 {
+        write_head(out, 0, 0, 1);
+        return 1;
+    }
+    write_rest(program, out, 0);
+    span
 }
