@@ -39,9 +39,16 @@ impl fmt::Display for CallLine {
     ghost output = { λ line. Some (text_of_call line) };
 
     fn fmt<W: fmt::Write>(&self, f: &mut fmt::Formatter<W>) -> fmt::Result {
-        let (event, value, steps) = (self.event, self.value, self.steps);
-        let (emitted, highest, outputs) = (self.emitted, self.highest, self.outputs);
-        let state = state(self.finished);
+        let CallLine {
+            event,
+            value,
+            steps,
+            emitted,
+            highest,
+            outputs,
+            finished,
+        } = *self;
+        let state = state(finished);
         writeln!(
             f,
             "{event} {value} {steps} {emitted} {highest} {outputs} {state}"
@@ -54,7 +61,8 @@ impl fmt::Display for OutLine {
     ghost output = { λ line. Some (text_of_output line) };
 
     fn fmt<W: fmt::Write>(&self, f: &mut fmt::Formatter<W>) -> fmt::Result {
-        writeln!(f, "out {} {}", self.name, self.value)
+        let OutLine { name, value } = *self;
+        writeln!(f, "out {name} {value}")
     }
 }
 
@@ -63,6 +71,7 @@ impl fmt::Display for RefusalLine {
     ghost output = { λ line. Some (text_of_refusal line) };
 
     fn fmt<W: fmt::Write>(&self, f: &mut fmt::Formatter<W>) -> fmt::Result {
-        writeln!(f, "refused {} {}", self.number, self.place)
+        let RefusalLine { number, place } = *self;
+        writeln!(f, "refused {number} {place}")
     }
 }
