@@ -41,9 +41,9 @@ call-within l value event steps emitted highest outputs = simp length-append (om
   short-state l.finished,
 ))
 
-pub output-within : (l : OutLine) → SFits w32 l.value → l.name < 2 ^ 64 → length (text_of_output l) ≤ most_line
+pub output-within : (l : OutLine) → SFits w32 l.0.value → l.0.name < 2 ^ 64 → length (text_of_output l) ≤ most_line
 unfolding out_line
-output-within l value name = simp length-append (omega (arith, few-signed l.value value, few-digits l.name name))
+output-within l value name = simp length-append (omega (arith, few-signed l.0.value value, few-digits l.0.name name))
 
 pub refusal-within : (l : RefusalLine) → l.number < 2 ^ 64 → l.place < 2 ^ 64 → length (text_of_refusal l) ≤ most_line
 unfolding refusal_line

@@ -15,7 +15,7 @@ abbrev pub answer_of : CallLine → Answer
 answer_of l = record { finished = l.finished; steps = l.steps; emitted = l.emitted; highest = l.highest; outputs = l.outputs }
 
 abbrev pub output_of : OutLine → Output
-output_of l = record { name = l.name; value = l.value }
+output_of l = record { name = l.0.name; value = l.0.value }
 
 abbrev pub refusal_of : RefusalLine → Refusal
 refusal_of l = refusal l.number l.place

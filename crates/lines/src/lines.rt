@@ -3,6 +3,7 @@ ghost use Rattle.std.specs.Prelude.{◌≡◌, Some};
 ghost use Rattle.lines.specs.Lines.{state};
 ghost use Rattle.lines.specs.Texts.{text_of_call, text_of_output, text_of_refusal};
 
+use crate::Entry;
 use std::fmt;
 
 #[derive(Clone, Copy, Debug, PartialEq, Eq)]
@@ -17,10 +18,7 @@ pub struct CallLine {
 }
 
 #[derive(Clone, Copy, Debug, PartialEq, Eq)]
-pub struct OutLine {
-    pub name: u8,
-    pub value: i32,
-}
+pub struct OutLine(pub Entry);
 
 #[derive(Clone, Copy, Debug, PartialEq, Eq)]
 pub struct RefusalLine {
@@ -61,7 +59,7 @@ impl fmt::Display for OutLine {
     ghost output = { λ line. Some (text_of_output line) };
 
     fn fmt<W: fmt::Write>(&self, f: &mut fmt::Formatter<W>) -> fmt::Result {
-        let OutLine { name, value } = *self;
+        let OutLine(Entry { name, value }) = *self;
         writeln!(f, "out {name} {value}")
     }
 }
