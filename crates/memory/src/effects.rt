@@ -3,7 +3,7 @@ ghost use Rattle.std.specs.Prelude.{◌≡◌, ◌+◌, ◌≤◌, length};
 ghost use Rattle.std.proofs.lemmas.List.Edits.{sets};
 ghost use Rattle.std.specs.Int.Signed.{mag};
 ghost use Rattle.rules.specs.Number.{bytes32};
-ghost use Rattle.memory.specs.Arrays.{acts, kind_acts, variable, set_variable, put_output};
+ghost use Rattle.memory.specs.Arrays.{acts, kind_acts, variable, set_variable, put_output, make_output};
 ghost use Rattle.memory.specs.Acts.{act_of, arrays_of, Ticks, Tests, Sets, counted};
 
 use crate::act::Act;
@@ -50,6 +50,7 @@ fn put_output(n: u64, name: usize, value: i32, out: &mut [u8])
 
 impl Memory {
     // One step more.
+    #[tactic(auto, unfolding(crate::specs::Acts::arrays_of, crate::specs::Arrays::arrays, crate::specs::Arrays::tick))]
     pub fn tick(&mut self)
         ensures { Ticks self.old self.new }
     {
@@ -63,6 +64,7 @@ impl Memory {
         self.vars.get(v).copied().unwrap_or(0)
     }
 
+    #[tactic(auto, using(crate::proofs::Bits::zero_bits), unfolding(crate::specs::Acts::arrays_of, crate::specs::Arrays::arrays, crate::specs::Arrays::is_nonzero))]
     pub fn is_nonzero(&self, v: usize) -> bool
         ensures { Tests result self.now v }
     {
@@ -77,12 +79,16 @@ impl Memory {
         }
     }
 
-    fn output(&mut self, name: usize, value: i32, out: &mut [u8]) {
+    #[tactic(auto, unfolding(crate::specs::Acts::arrays_of, crate::specs::Arrays::arrays))]
+    fn output(&mut self, name: usize, value: i32, out: &mut [u8])
+        ensures { arrays_of self.new out.new ≡ make_output (arrays_of self.old out.old) name value }
+    {
         put_output(self.outputs, name, value, out);
         self.outputs = one_more(self.outputs);
     }
 
     // What a record of this act, name and number does.
+    #[tactic(auto, unfolding(crate::specs::Acts::arrays_of, crate::specs::Arrays::arrays, crate::specs::Arrays::acts))]
     pub fn perform(&mut self, act: Act, name: usize, number: i32, out: &mut [u8])
         ensures { arrays_of self.new out.new ≡ acts (act_of act) name number (arrays_of self.old out.old) }
     {
@@ -100,6 +106,7 @@ impl Memory {
     }
 
     // The same by a kind's number; kinds other than 1 to 7 do nothing.
+    #[tactic(auto, unfolding(crate::specs::Arrays::kind_acts))]
     pub fn act(&mut self, kind: u8, name: usize, number: i32, out: &mut [u8])
         ensures { arrays_of self.new out.new ≡ kind_acts kind name number (arrays_of self.old out.old) }
     {

@@ -65,8 +65,8 @@ named-node (kind.Par And) i v z p q = refl
 named-node (kind.Par Or) i v z p q = refl
 named-node kind.Fin i v z p q = refl
 
-pub stands-named : (b : List ℕ) (i : ℕ) → Place b i → (k : Kind) → kind_number k ≡ kind_at b i → Stands b i k
-stands-named b i p k e = record {
+pub stands_named : (b : List ℕ) (i : ℕ) → Place b i → (k : Kind) → kind_number k ≡ kind_at b i → Stands b i k
+stands_named b i p k e = record {
   number = sym e;
   children = ap children_of (sym e) ∙ named-children k;
   tree = tree-kind b i p (kind_number k) (sym e) ∙ named-node k _ _ _ _ _;
@@ -75,17 +75,17 @@ stands-named b i p k e = record {
 -- ---- the children of a place
 
 module _ (b : List ℕ) (i : ℕ) (p : Spot b i) where
-  pub spot-first : 1 ≤ children_of (kind_at b i) → Spot b (i + 1)
-  spot-first h = record { place = down-place b i p.place h; small = p.small }
+  pub spot_first : 1 ≤ children_of (kind_at b i) → Spot b (i + 1)
+  spot_first h = record { place = down-place b i p.place h; small = p.small }
 
-  pub spot-second : 2 ≤ children_of (kind_at b i) → Spot b (second_at b i)
-  spot-second h = record { place = next_place b i p.place h; small = p.small }
+  pub spot_second : 2 ≤ children_of (kind_at b i) → Spot b (second_at b i)
+  spot_second h = record { place = next_place b i p.place h; small = p.small }
 
   pub first_inside : 1 ≤ children_of (kind_at b i) → i + 1 < records_of b
-  first_inside h = (spot-first h).place.inside
+  first_inside h = (spot_first h).place.inside
 
-  pub first-falls : 1 ≤ children_of (kind_at b i) → span_at b (i + 1) < span_at b i
-  first-falls h = down-falls b i p.place h
+  pub first_falls : 1 ≤ children_of (kind_at b i) → span_at b (i + 1) < span_at b i
+  first_falls h = down-falls b i p.place h
 
-  pub second-falls : 2 ≤ children_of (kind_at b i) → span_at b (second_at b i) < span_at b i
-  second-falls h = omega (arith, next-falls b i p.place h)
+  pub second_falls : 2 ≤ children_of (kind_at b i) → span_at b (second_at b i) < span_at b i
+  second_falls h = omega (arith, next-falls b i p.place h)

@@ -17,6 +17,7 @@ pub struct Construct<'a> {
 }
 
 impl<'a> Construct<'a> {
+    #[tactic(auto, using(crate::proofs::Spots::stands_named), unfolding(crate::specs::Kinds::children_of))]
     pub fn kind(self) -> Kind
         ensures { Stands self.entry.table.now self.entry.place result }
     {
@@ -46,6 +47,7 @@ impl<'a> Construct<'a> {
     }
 
     // Its first child, whose span is less.
+    #[tactic(auto, using(crate::proofs::Spots::spot_first, crate::proofs::Spots::first_falls))]
     pub fn first(self) -> Construct<'a>
         requires { 1 ≤ children_of (kind_at self.table.now self.place) }
         ensures table { result.table.now ≡ self.entry.table.now }
@@ -59,6 +61,7 @@ impl<'a> Construct<'a> {
     }
 
     // Its second child, whose span is less too.
+    #[tactic(auto, using(crate::proofs::Spots::first_inside, crate::proofs::Spots::spot_second, crate::proofs::Spots::second_falls))]
     pub fn second(self) -> Construct<'a>
         requires { 2 ≤ children_of (kind_at self.table.now self.place) }
         ensures table { result.table.now ≡ self.entry.table.now }

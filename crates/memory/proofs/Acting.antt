@@ -1,2 +1,0 @@
--- What kinds 1 to 7 do, put together from what the functions of `act` promise.
--- Assumes nothing.
