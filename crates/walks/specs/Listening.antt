@@ -43,13 +43,16 @@ row_of l Internal = l.internal
 abbrev pub reach_of : Listeners → Source → ℕ → Reach
 reach_of l s e = if ltb e 64 then slice_index_or (row_of l s) e anywhere else anywhere
 
+abbrev pub HeardAmong : List ℕ → ℕ → Listeners → Type 0
+HeardAmong b n l = (s : Source) (e : ℕ) → e < 64 → reach_of l s e ≡ heard b s e n
+
 -- every listener of every event is counted
 pub record Listens (b : List ℕ) (l : Listeners) : Type 0 where
   pub counted : (s : Source) (e : ℕ) → Hear b s e (reach_of l s e)
 
 -- and no place beyond the first and the last of them
 abbrev pub Tight : List ℕ → Listeners → Type 0
-Tight b l = (s : Source) (e : ℕ) → e < 64 → reach_of l s e ≡ heard b s e (records_of b)
+Tight b l = HeardAmong b (records_of b) l
 
 -- ---- what it holds with one listener more, at place i
 

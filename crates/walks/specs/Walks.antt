@@ -1,8 +1,8 @@
 -- The walks of the theory over the memory of the code, and what the contracts of the walks are said with.
 use Rattle.std.specs.Prelude.{◌≡◌, Bool, ◌||◌, ◌&&◌, List, ℕ, eqb}
-use Rattle.rules.specs.Tree.{Par, and, or, by_source}
+use Rattle.rules.specs.Tree.{by_source}
 use Rattle.rules.specs.Step.{Event}
-use Rattle.theory.specs.State.{Ops, How, idle, ended, broke, waiting, ringing, Walk, walk, Swept, swept, Then, exec_loop}
+use Rattle.theory.specs.State.{Ops, How, idle, ended, broke, waiting, ringing, Walk, walk, Swept, swept, exec_loop}
 use Rattle.table.specs.Named.{source_of}
 use Rattle.table.specs.declared.kind.Source.{Source}
 use Rattle.memory.specs.Arrays.{Arrays, tick, acts, is_nonzero}
@@ -44,13 +44,6 @@ waits k s = eqb k (by_source (source_of s) 8) || eqb k (by_source (source_of s) 
 unfoldable pub hears : ℕ → ℕ → Source → ℕ → Bool
 unfolding waits
 hears k v s e = waits k s && eqb e v
-
--- ---- parts of an and or or
-
--- a fresh one whose left has ended at once; `right` begins its right
-abbrev pub left_ended : Par → Then Arrays → Then Arrays
-left_ended and right l m = right l (tick (tick (tick m)))
-left_ended or right l m = walk ended l (tick m)
 
 -- ---- what a call promises that is lent the memory alone: with any states and any output room
 

@@ -12,17 +12,13 @@ use table::{Construct, Kind, Par};
 
 // Did anything live there?
 #[cycle(clear)]
+#[tactic(auto, using(crate::proofs::Nodes::sweep_node), unfolding(theory::specs::State::sweep))]
 pub fn clear(at: Construct<'_>, run: &mut Running, out: &mut [u8]) -> bool
     ensures { cleared result run.new out.new ≡ sweep array_ops (tree at.entry) run.old.states (arrays_of run.old.memory out.old) }
 {
     match at.kind() {
         // One side lives at most.
-        Kind::If | Kind::Sequence => {
-            if clear(at.first(), run, out) {
-                return true;
-            }
-            clear(at.second(), run, out)
-        }
+        Kind::If | Kind::Sequence => clear(at.first(), run, out) || clear(at.second(), run, out),
         Kind::Loop => clear(at.first(), run, out),
         Kind::Par(par) => clear_par(at, par, run, out),
         Kind::Fin => {
@@ -43,6 +39,7 @@ pub fn clear(at: Construct<'_>, run: &mut Running, out: &mut [u8]) -> bool
 
 // An and or or: where its right had not started, that is idle.
 #[cycle(clear)]
+#[tactic(auto, using(crate::proofs::Nodes::sweep_node), unfolding(theory::specs::State::sweep))]
 fn clear_par(at: Construct<'_>, par: Par, run: &mut Running, out: &mut [u8]) -> bool
     requires { Stands at.table.now at.place (Kind.Par par) }
     ensures { cleared result run.new out.new ≡ sweep array_ops (tree at.entry) run.old.states (arrays_of run.old.memory out.old) }

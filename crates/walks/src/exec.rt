@@ -4,7 +4,7 @@ ghost use Rattle.theory.specs.State.{exec, then_right};
 ghost use Rattle.table.specs.Constructs.{tree};
 ghost use Rattle.table.specs.Named.{Stands, par_of};
 ghost use Rattle.memory.specs.Acts.{arrays_of};
-ghost use Rattle.walks.specs.Walks.{array_ops, left, left_ended, AfterBody};
+ghost use Rattle.walks.specs.Walks.{array_ops, left, AfterBody};
 
 use crate::clear::clear;
 use crate::running::{How, Running};
@@ -58,6 +58,7 @@ pub fn after_right(
 }
 
 #[cycle(exec)]
+#[tactic(auto, using(crate::proofs::Nodes::exec_node), unfolding(theory::specs::State::exec))]
 pub fn exec(at: Construct<'_>, n: u32, run: &mut Running, out: &mut [u8]) -> How
     ensures { left result run.new out.new ≡ exec array_ops n (tree at.entry) run.old.states (arrays_of run.old.memory out.old) }
 {
@@ -77,8 +78,11 @@ pub fn exec(at: Construct<'_>, n: u32, run: &mut Running, out: &mut [u8]) -> How
         Kind::If => {
             let holds = run.memory.is_nonzero(at.name());
             run.memory.tick();
-            let side = if holds { at.first() } else { at.second() };
-            exec(side, n, run, out)
+            if holds {
+                exec(at.first(), n, run, out)
+            } else {
+                exec(at.second(), n, run, out)
+            }
         }
         Kind::Sequence => exec_seq(at, n, run, out),
         Kind::Loop => {
@@ -95,6 +99,7 @@ pub fn exec(at: Construct<'_>, n: u32, run: &mut Running, out: &mut [u8]) -> How
 }
 
 #[cycle(exec)]
+#[tactic(auto, using(crate::proofs::Nodes::exec_node), unfolding(theory::specs::State::exec))]
 fn exec_seq(at: Construct<'_>, n: u32, run: &mut Running, out: &mut [u8]) -> How
     requires { Stands at.table.now at.place Kind.Sequence }
     ensures { left result run.new out.new ≡ exec array_ops n (tree at.entry) run.old.states (arrays_of run.old.memory out.old) }
@@ -115,6 +120,7 @@ fn exec_seq(at: Construct<'_>, n: u32, run: &mut Running, out: &mut [u8]) -> How
 
 // The right starts where the left is blocked; where the left has an event pending, the right waits for its turn.
 #[cycle(exec)]
+#[tactic(auto, using(crate::proofs::Nodes::exec_node), unfolding(theory::specs::State::exec))]
 fn exec_par(at: Construct<'_>, par: Par, n: u32, run: &mut Running, out: &mut [u8]) -> How
     requires { Stands at.table.now at.place (Kind.Par par) }
     ensures { left result run.new out.new ≡ exec array_ops n (tree at.entry) run.old.states (arrays_of run.old.memory out.old) }
@@ -125,7 +131,17 @@ fn exec_par(at: Construct<'_>, par: Par, n: u32, run: &mut Running, out: &mut [u
     let how = exec(first, n, run, out);
     match how {
         How::Idle => How::Idle,
-        How::Ended => left_ended(second, par, n, run, out),
+        How::Ended => {
+            run.memory.tick();
+            match par {
+                Par::And => {
+                    run.memory.tick();
+                    run.memory.tick();
+                    exec(second, n, run, out)
+                }
+                Par::Or => How::Ended,
+            }
+        }
         How::Broke => {
             run.memory.tick();
             run.memory.tick();
@@ -141,21 +157,5 @@ fn exec_par(at: Construct<'_>, par: Par, n: u32, run: &mut Running, out: &mut [u
             run.states[at.place] = n;
             How::Ringing(event)
         }
-    }
-}
-
-// After a left that has ended at once: an or ends with it; of an and the right starts.
-#[cycle(exec)]
-fn left_ended(right: Construct<'_>, par: Par, n: u32, run: &mut Running, out: &mut [u8]) -> How
-    ensures { left result run.new out.new ≡ left_ended (par_of par) (exec array_ops n (tree right.entry)) run.old.states (arrays_of run.old.memory out.old) }
-{
-    run.memory.tick();
-    match par {
-        Par::And => {
-            run.memory.tick();
-            run.memory.tick();
-            exec(right, n, run, out)
-        }
-        Par::Or => How::Ended,
     }
 }

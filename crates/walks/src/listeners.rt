@@ -47,9 +47,11 @@ impl Listeners {
         requires small { records_of table.now ≤ most_records }
         ensures { Heard table.now i self.old self.new }
     {
-        match kind_at(table, i) {
-            Ok(Kind::Await(source)) => self.note(source, name_at(table, i), i),
-            Ok(Kind::Every(source)) => self.note(source, name_at(table, i), i),
+        let Ok(kind) = kind_at(table, i) else {
+            return;
+        };
+        match kind {
+            Kind::Await(source) | Kind::Every(source) => self.note(source, name_at(table, i), i),
             _ => {}
         }
     }

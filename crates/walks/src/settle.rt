@@ -10,6 +10,7 @@ use table::{Construct, Kind};
 
 // A tree of kinds 0 to 7, 12 and 13 runs to its end.
 #[cycle(settle)]
+#[tactic(auto, using(crate::proofs::Nodes::settle_node), unfolding(theory::specs::State::settle))]
 pub fn settle(at: Construct<'_>, memory: &mut Memory, out: &mut [u8])
     ensures { arrays_of memory.new out.new ≡ settle array_ops (tree at.entry) (arrays_of memory.old out.old) }
 {
@@ -21,8 +22,11 @@ pub fn settle(at: Construct<'_>, memory: &mut Memory, out: &mut [u8])
         Kind::If => {
             let holds = memory.is_nonzero(at.name());
             memory.tick();
-            let side = if holds { at.first() } else { at.second() };
-            settle(side, memory, out);
+            if holds {
+                settle(at.first(), memory, out);
+            } else {
+                settle(at.second(), memory, out);
+            }
         }
         Kind::Sequence => {
             settle(at.first(), memory, out);

@@ -12,6 +12,7 @@ use table::{Construct, Kind, Source};
 
 // What waits for the event at the construct's place and below is woken.
 #[cycle(awake)]
+#[tactic(auto, using(crate::proofs::Nodes::awake_node), unfolding(theory::specs::State::awake))]
 fn awake(at: Construct<'_>, source: Source, event: usize, states: &mut [u32; Limits::RECORDS])
     ensures { states.new ≡ awake (wakes (event_from source event)) (tree at.entry) states.old }
 {
