@@ -2,16 +2,17 @@
 -- Assumes nothing.
 use Rattle.std.specs.Prelude.{if◌then◌else◌, None, Some}
 use Rattle.std.specs.Prelude as std
-use mathlib.Core.Path.{◌≡◌, refl, ap, subst}
+use mathlib.Core.Path.{◌≡◌, refl, sym, ap, subst, ◌∙◌}
 use mathlib.Core.Bool.{Bool, true, false}
 use mathlib.Core.List.{List, [], ◌∷◌, ◌++◌}
 use mathlib.Core.Option.{Option, some}
-use Prim.Native.Nat.{ℕ, suc, ◌+◌, ◌-◌, ◌≤◌, ◌<◌}
+use Prim.Native.Nat.{ℕ, zero, suc, ◌+◌, ◌-◌, ◌≤◌, ◌<◌}
+use native.Mathlib.Numerals.{add-one}
 use native.Mathlib.Omega.{arith}
 use Rattle.rules.specs.Stages.{failing, Refusal, refusal, or_else}
 use Rattle.rules.specs.Table.{records_of}
 use Rattle.theory.specs.Logic.{clash}
-use Rattle.table.specs.Found.{first_of, Inside, or_next}
+use Rattle.table.specs.Found.{first_of, Inside, or_next, First}
 
 -- ---- the places that fail a test, from place i on
 
@@ -58,6 +59,19 @@ first-append (i ∷ is) b = refl
 
 pub found_inside : (b : List ℕ) {x : std.Option ℕ} {m : ℕ} → x ≡ Some m → Inside b x → m < records_of b
 found_inside b e h = subst (Inside b) e h
+
+-- ---- what `find` over a range says
+
+module _ (ok : ℕ → Bool) (n : ℕ) where
+  passes_before : (i : ℕ) → i ≤ n → ((k : ℕ) → 0 ≤ k → k < i → ok k ≡ true) → failing ok 0 n ≡ failing ok i (n - i)
+  passes_before zero h f = failing-all ok n
+  passes_before (suc i) h f =
+      passes_before i (omega arith) (λ k z l. f k z (omega arith))
+      ∙ rw (add-one i) at (failing-passes ok i n (omega arith) (f i (omega arith) (omega arith)))
+
+  pub first_fails : (r : std.Option ℕ) → First ok n r → r ≡ first_of (failing ok 0 n)
+  first_fails None h = sym (ap first_of (passes_before n (omega arith) h ∙ failing-over ok n n (omega arith)))
+  first_fails (Some i) h = sym (ap first_of (passes_before i (omega arith) h.3 ∙ failing-fails ok i n h.1 h.2))
 
 -- ---- what was found of the places that fail a stage
 
