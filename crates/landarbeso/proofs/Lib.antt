@@ -1,3 +1,0 @@
--- Laws of the C functions.
-pub mod Verdicts
-pub mod Counting
