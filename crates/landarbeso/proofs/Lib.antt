@@ -1,0 +1,2 @@
+-- Laws of the C functions.
+pub mod Counting
