@@ -1,2 +1,3 @@
 -- Laws of the C functions.
+pub mod Verdicts
 pub mod Counting

@@ -72,18 +72,14 @@ impl From<Result<Listed, Refusal>> for Answer {
 
     fn from(listed: Result<Listed, Refusal>) -> Answer {
         match listed {
-            Ok(
-                Listed {
-                    done,
-                    stopped: Some(refusal),
-                    ..
+            Ok(listed) => match listed.stopped {
+                Some(refusal) => Answer {
+                    refused: refusal.stage.number(),
+                    place: refusal.place,
+                    ..Answer::from(listed.done)
                 },
-            ) => Answer {
-                refused: refusal.stage.number(),
-                place: refusal.place,
-                ..Answer::from(done)
+                None => listed.done.into(),
             },
-            Ok(Listed { done, .. }) => done.into(),
             Err(refusal) => refusal.into(),
         }
     }
