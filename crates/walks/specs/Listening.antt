@@ -1,5 +1,5 @@
 -- Where each event is awaited: a reach for each event of each source, and the parts of a construct that hold it.
-use Rattle.std.specs.Prelude.{◌≡◌, Bool, true, false, List, ℕ, zero, suc, ◌+◌, ◌≤◌, ◌<◌, min, max, ltb, slice_index_or, ◌&&◌, eqb, if◌then◌else◌}
+use Rattle.std.specs.Prelude.{◌≡◌, Bool, true, List, ℕ, zero, suc, ◌+◌, ◌≤◌, ◌<◌, min, max, ltb, slice_index_or, ◌&&◌, eqb, if◌then◌else◌}
 use Rattle.rules.specs.Limits.{most_records}
 use Rattle.rules.specs.Table.{kind_at, name_at, second_at, records_of}
 use Rattle.rules.specs.Step.{wakes}
@@ -12,7 +12,7 @@ use Rattle.table.specs.declared.kind.Source.{Source}
 use Rattle.table.specs.declared.kind.Source.TheVariants.{Input, Internal}
 use Rattle.walks.specs.declared.listeners.Listeners.{Listeners}
 use Rattle.walks.specs.declared.part.Reach.{Reach}
-use Rattle.walks.specs.Walks.{event_from, waits, hears}
+use Rattle.walks.specs.Walks.{event_from, hears}
 
 -- whoever awaits the event stands within the reach
 abbrev pub Hear : List ℕ → Source → ℕ → Reach → Type 0

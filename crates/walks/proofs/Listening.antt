@@ -1,0 +1,163 @@
+-- Every listener of every event is counted; and where nobody listens, awake changes nothing.
+-- Assumes nothing.
+use Rattle.std.proofs.Common.{◌≡◌, refl, sym, ap, ◌∙◌, arith, ℕ, zero, suc, ◌+◌, ◌≤◌, ◌<◌, List, Bool, true, false, eqb, ltb, if◌then◌else◌}
+use lib.ListN.{get_or, set, replicate}
+use Rattle.std.proofs.lemmas.List.{get_or-replicate}
+use lib.Seq.{get_or-set_other}
+use borrow.Author.Tests.{eqb-true, eqb-false, eq-eqb, ne_eqb, lt-ltb, ltb-true, ltb-false}
+use Rattle.rules.specs.Limits.{most_records}
+use Rattle.rules.specs.Table.{kind_at, name_at, span_at, second_at, records_of}
+use Rattle.rules.specs.Step.{wakes}
+use Rattle.theory.specs.State.{awake, wake_at}
+use Rattle.table.specs.Kinds.{children_of}
+use Rattle.table.specs.Places.{Place, tree_of}
+use Rattle.table.specs.declared.kind.Source.{Source}
+use Rattle.table.specs.declared.kind.Source.TheVariants.{Input, Internal}
+use Rattle.table.proofs.Places.{children-from, span_pos, down-place, down-falls, next_place, next-falls}
+use Rattle.table.proofs.Trees.{span-inside}
+use Rattle.walks.specs.Walks.{event_from, hears}
+use Rattle.walks.specs.declared.listeners.Listeners.{Listeners}
+use Rattle.walks.specs.declared.part.Reach.{Reach}
+use Rattle.walks.specs.Listening.{Hear, nowhere, anywhere, widened_if, heard, reach_of, Tight, Listens, PartWith, itself, the-body, the-left, the-right, HeardIn}
+use Rattle.walks.proofs.Waking.{awake-record}
+
+-- ---- every listener counts
+
+pub heard-none : (b : List ℕ) (x : Source) (e : ℕ) → e < 64 → reach_of record { input = replicate 64 nowhere; internal = replicate 64 nowhere } x e ≡ heard b x e 0
+unfolding heard
+heard-none b Input e h = rw (lt-ltb e 64 h) (get_or-replicate 64 e nowhere anywhere h)
+heard-none b Internal e h = rw (lt-ltb e 64 h) (get_or-replicate 64 e nowhere anywhere h)
+
+module _ (b : List ℕ) (x : Source) (e : ℕ) where
+  pub heard-next : (n : ℕ) → heard b x e (n + 1) ≡ widened_if (hears (kind_at b n) (name_at b n) x e) n (heard b x e n)
+  unfolding heard
+  heard-next n = let q : n + 1 ≡ suc n = omega arith in ap (heard b x e) q
+
+  heard-has : (n k : ℕ) → k < n → hears (kind_at b k) (name_at b k) x e ≡ true → ((heard b x e n).from ≤ k) × (k < (heard b x e n).to)
+  unfolding heard
+  heard-has zero k h q = absurd (omega arith)
+  heard-has (suc n) k h q = go (hears (kind_at b n) (name_at b n) x e) refl (ltb k n) refl (λ u. heard-has n k u q)
+    where
+      go : (y : Bool) → hears (kind_at b n) (name_at b n) x e ≡ y → (z : Bool) → ltb k n ≡ z → (let r = heard b x e n in k < n → (r.from ≤ k) × (k < r.to)) → (let r = widened_if y n (heard b x e n) in (r.from ≤ k) × (k < r.to))
+      go true w true z f = let r = f (ltb-true k n z) in (omega arith, omega arith)
+      go true w false z f = let g = ltb-false k n z in (omega arith, omega arith)
+      go false w true z f = f (ltb-true k n z)
+      go false w false z f = let g : k ≡ n = omega (arith, ltb-false k n z) in let o = rw g at q in absurd (cc)
+
+-- of events over 63: the listeners stand somewhere
+pub all-listen : (b : List ℕ) (l : Listeners) → records_of b ≤ most_records → Tight b l → Listens b l
+all-listen b l small t = record { counted = λ x e. go x e (ltb e 64) refl }
+  where
+    go : (x : Source) (e : ℕ) (y : Bool) → ltb e 64 ≡ y → Hear b x e (reach_of l x e)
+    go x e true h k u q = rw (t x e (ltb-true e 64 h)) (heard-has b x e (records_of b) k u q)
+    go x e false h k u q = rw h (omega arith, omega arith)
+
+-- ---- where nobody listens
+
+pub not_so : (y : Bool) → (y ≡ true → ⊥) → y ≡ false
+not_so true h = absurd (h refl)
+not_so false h = refl
+
+loop-alone : (k : ℕ) → k ≡ 14 → children_of k ≡ 2 → ⊥
+unfolding children_of
+loop-alone k e h = omega (arith, rw e at h)
+
+loop-down : (k : ℕ) → k ≡ 14 → 1 ≤ children_of k
+loop-down k e = children-from 14 e tt
+
+module _ (b : List ℕ) (x : Source) (e : ℕ) where
+  Deaf : ℕ → Type 0
+  Deaf i = (k : ℕ) → i ≤ k → k < i + span_at b i → hears (kind_at b k) (name_at b k) x e ≡ false
+
+  deaf-node : (i : ℕ) (p : Place b i) (l : List ℕ) → hears (kind_at b i) (name_at b i) x e ≡ false → (1 ≤ children_of (kind_at b i) → awake (wakes (event_from x e)) (tree_of b (i + 1)) l ≡ l) → (2 ≤ children_of (kind_at b i) → awake (wakes (event_from x e)) (tree_of b (second_at b i)) l ≡ l) → awake (wakes (event_from x e)) (tree_of b i) l ≡ l
+  deaf-node i p l own down next = awake-record b i p l x e ∙ go (eqb (children_of (kind_at b i)) 2) refl (eqb (kind_at b i) 14) refl
+    where
+      go : (y : Bool) → eqb (children_of (kind_at b i)) 2 ≡ y → (z : Bool) → eqb (kind_at b i) 14 ≡ z →
+          (if y then awake (wakes (event_from x e)) (tree_of b (second_at b i)) (awake (wakes (event_from x e)) (tree_of b (i + 1)) l) else if z then awake (wakes (event_from x e)) (tree_of b (i + 1)) l else wake_at (hears (kind_at b i) (name_at b i) x e) i l) ≡ l
+      go true y z w = let c = eqb-true (children_of (kind_at b i)) 2 y in rw (down (omega arith)) (next (omega arith))
+      go false y true w = down (loop-down (kind_at b i) (eqb-true (kind_at b i) 14 w))
+      go false y false w = rw own
+
+  deaf-at : (f i : ℕ) (p : Place b i) (l : List ℕ) → span_at b i ≤ f → Deaf i → awake (wakes (event_from x e)) (tree_of b i) l ≡ l
+  unfolding Deaf
+  deaf-at zero i p l h g = absurd (omega (arith, span_pos b i p))
+  deaf-at (suc f) i p l h g =
+      deaf-node i p l (g i (omega arith) (omega (arith, span_pos b i p)))
+      (λ c. deaf-at f (i + 1) (down-place b i p c) l (omega (arith, down-falls b i p c)) (λ k y z. g k (omega arith) (omega (arith, down-falls b i p c))))
+      (λ c. deaf-at f (second_at b i) (next_place b i p c) l (omega (arith, next-falls b i p c)) (λ k y z. g k (omega arith) (omega (arith, next-falls b i p c))))
+
+  module _ (r : Reach) (hear : Hear b x e r) where
+    pub deaf-behind : (i : ℕ) (p : Place b i) (l : List ℕ) → r.to ≤ i → awake (wakes (event_from x e)) (tree_of b i) l ≡ l
+    unfolding Deaf
+    deaf-behind i p l h = deaf-at (span_at b i) i p l (omega arith) (λ k y z. not_so (hears (kind_at b k) (name_at b k) x e) (λ q. omega (arith, (hear k (omega (arith, span-inside b i p)) q).1)))
+
+    pub deaf-before : (i : ℕ) (p : Place b i) (l : List ℕ) → i + span_at b i ≤ r.from → awake (wakes (event_from x e)) (tree_of b i) l ≡ l
+    unfolding Deaf
+    deaf-before i p l h = deaf-at (span_at b i) i p l (omega arith) (λ k y z. not_so (hears (kind_at b k) (name_at b k) x e) (λ q. omega (arith, (hear k (omega (arith, span-inside b i p)) q).0)))
+
+    pub deaf-all : (i : ℕ) (p : Place b i) (l : List ℕ) → r.to ≤ r.from → awake (wakes (event_from x e)) (tree_of b i) l ≡ l
+    unfolding Deaf
+    deaf-all i p l h = deaf-at (span_at b i) i p l (omega arith) (λ k y z. not_so (hears (kind_at b k) (name_at b k) x e) (λ q. let w = hear k (omega (arith, span-inside b i p)) q in omega (arith, w.0, w.1)))
+
+    -- nobody listens beside the part
+    pub part-hears : (i : ℕ) → Place b i → {k : ℕ} → PartWith b i r k → (l : List ℕ) → awake (wakes (event_from x e)) (tree_of b k) l ≡ awake (wakes (event_from x e)) (tree_of b i) l
+    part-hears i p itself l = refl
+    part-hears i p (the-body c) l = sym (awake-record b i p l x e ∙ rw (ne_eqb (children_of (kind_at b i)) 2 (λ q. loop-alone (kind_at b i) c q), eq-eqb (kind_at b i) 14 c))
+    part-hears i p (the-left c h) l = sym (awake-record b i p l x e ∙ rw (eq-eqb (children_of (kind_at b i)) 2 c) (deaf-behind (second_at b i) (next_place b i p (omega arith)) (awake (wakes (event_from x e)) (tree_of b (i + 1)) l) h))
+    part-hears i p (the-right c h) l = sym (awake-record b i p l x e ∙ rw (eq-eqb (children_of (kind_at b i)) 2 c) (ap (awake (wakes (event_from x e)) (tree_of b (second_at b i))) (deaf-before (i + 1) (down-place b i p (omega arith)) l (omega arith))))
+
+-- ---- the part
+
+module _ (b : List ℕ) {r : Reach} where
+  pub part-place : (i : ℕ) → Place b i → {k : ℕ} → PartWith b i r k → Place b k
+  part-place i p itself = p
+  part-place i p (the-body c) = down-place b i p (loop-down (kind_at b i) c)
+  part-place i p (the-left c h) = down-place b i p (omega arith)
+  part-place i p (the-right c h) = next_place b i p (omega arith)
+
+  pub part-below : (i : ℕ) → Place b i → {k : ℕ} → PartWith b i r k → (k ≡ i → ⊥) → i < k
+  part-below i p itself n = absurd (n refl)
+  part-below i p (the-body c) n = omega arith
+  part-below i p (the-left c h) n = omega arith
+  part-below i p (the-right c h) n = omega (arith, span_pos b (i + 1) (down-place b i p (omega arith)))
+
+  pub part-heard : (i : ℕ) → Place b i → {k : ℕ} → PartWith b i r k → HeardIn b r i → HeardIn b r k
+  part-heard i p w h x e hear l = part-hears b x e r hear i p w l ∙ h x e hear l
+
+-- ---- a place where nobody listens keeps its state
+
+set-kept : (l : List ℕ) (i k : ℕ) → (k ≡ i → ⊥) → (y : Bool) → get_or (wake_at y i l) k 0 ≡ get_or l k 0
+set-kept l i k n true = go (eqb (get_or l i 0) 1)
+  where
+    go : (z : Bool) → get_or (if z then set l i 2 else l) k 0 ≡ get_or l k 0
+    go true = get_or-set_other l i k 2 0 n
+    go false = refl
+set-kept l i k n false = refl
+
+module _ (b : List ℕ) (x : Source) (e k : ℕ) (deaf : hears (kind_at b k) (name_at b k) x e ≡ false) where
+  kept-one : (i : ℕ) (l : List ℕ) → get_or (wake_at (hears (kind_at b i) (name_at b i) x e) i l) k 0 ≡ get_or l k 0
+  kept-one i l = go (eqb k i) refl
+    where
+      go : (y : Bool) → eqb k i ≡ y → get_or (wake_at (hears (kind_at b i) (name_at b i) x e) i l) k 0 ≡ get_or l k 0
+      go true q = let o : k ≡ i = eqb-true k i q in let d = rw o at deaf in rw d
+      go false q = set-kept l i k (eqb-false k i q) (hears (kind_at b i) (name_at b i) x e)
+
+  kept-node : (i : ℕ) (p : Place b i) (l : List ℕ) → (1 ≤ children_of (kind_at b i) → (l : List ℕ) → get_or (awake (wakes (event_from x e)) (tree_of b (i + 1)) l) k 0 ≡ get_or l k 0) →
+      (2 ≤ children_of (kind_at b i) → (l : List ℕ) → get_or (awake (wakes (event_from x e)) (tree_of b (second_at b i)) l) k 0 ≡ get_or l k 0) → get_or (awake (wakes (event_from x e)) (tree_of b i) l) k 0 ≡ get_or l k 0
+  kept-node i p l down next = ap (λ (a : List ℕ). get_or a k 0) (awake-record b i p l x e) ∙ go (eqb (children_of (kind_at b i)) 2) refl (eqb (kind_at b i) 14) refl
+    where
+      go : (y : Bool) → eqb (children_of (kind_at b i)) 2 ≡ y → (z : Bool) → eqb (kind_at b i) 14 ≡ z →
+          get_or (if y then awake (wakes (event_from x e)) (tree_of b (second_at b i)) (awake (wakes (event_from x e)) (tree_of b (i + 1)) l) else if z then awake (wakes (event_from x e)) (tree_of b (i + 1)) l else wake_at (hears (kind_at b i) (name_at b i) x e) i l) k 0 ≡ get_or l k 0
+      go true y z w = let c = eqb-true (children_of (kind_at b i)) 2 y in next (omega arith) (awake (wakes (event_from x e)) (tree_of b (i + 1)) l) ∙ down (omega arith) l
+      go false y true w = down (loop-down (kind_at b i) (eqb-true (kind_at b i) 14 w)) l
+      go false y false w = kept-one i l
+
+  kept_from : (f i : ℕ) (p : Place b i) → span_at b i ≤ f → (l : List ℕ) → get_or (awake (wakes (event_from x e)) (tree_of b i) l) k 0 ≡ get_or l k 0
+  kept_from zero i p h l = absurd (omega (arith, span_pos b i p))
+  kept_from (suc f) i p h l =
+      kept-node i p l
+      (λ c. kept_from f (i + 1) (down-place b i p c) (omega (arith, down-falls b i p c)))
+      (λ c. kept_from f (second_at b i) (next_place b i p c) (omega (arith, next-falls b i p c)))
+
+  pub awake-kept : (i : ℕ) (p : Place b i) (l : List ℕ) → get_or (awake (wakes (event_from x e)) (tree_of b i) l) k 0 ≡ get_or l k 0
+  awake-kept i p l = kept_from (span_at b i) i p (omega arith) l
