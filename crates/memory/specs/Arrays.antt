@@ -1,5 +1,5 @@
 -- The memory of a running program as the arrays that are lent down every walk, and what kinds 1 to 7 do to them.
-use Rattle.std.specs.Prelude.{◌≡◌, ℕ, ◌+◌, ◌*◌, ◌/◌, ◌%◌, Bool, not, List, [], ◌∷◌, length, ℤ, pos, ◌==◌, nat_lt, slice_index, slice_index_or, slice_set, if◌then◌else◌}
+use Rattle.std.specs.Prelude.{ℕ, ◌+◌, ◌*◌, ◌/◌, ◌%◌, Bool, not, List, [], ◌∷◌, length, ℤ, pos, nat_lt, slice_index, slice_index_or, slice_set, if◌then◌else◌}
 use Rattle.std.proofs.Math.Option.{Option, none, some}
 use Rattle.std.specs.Int.Signed.{mag}
 use Rattle.std.proofs.lemmas.List.Edits.{sets}

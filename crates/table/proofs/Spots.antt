@@ -2,7 +2,7 @@
 -- Assumes nothing.
 use mathlib.Core.Path.{◌≡◌, refl, sym, ap, ◌∙◌}
 use mathlib.Core.List.{List}
-use Prim.Native.Nat.{ℕ, suc, ◌+◌, ◌≤◌, ◌<◌}
+use Prim.Native.Nat.{ℕ, ◌+◌, ◌≤◌, ◌<◌}
 use native.Mathlib.Omega.{arith}
 use lib.IntN.{ℤ}
 use Rattle.rules.specs.Tree.{Tree}
@@ -14,8 +14,8 @@ use Rattle.table.specs.declared.kind.Kind.TheVariants as kind
 use Rattle.memory.specs.declared.act.Act.TheVariants.{Assign, Increase, Copy, Subtract, Compare, Divide, Output}
 use Rattle.table.specs.Kinds.{row_of, children_of}
 use Rattle.table.specs.Named.{kind_number, children, node_of, Stands}
-use Rattle.table.specs.Places.{Place, Spot, tree_of}
-use Rattle.table.proofs.Places.{kind-most, down-place, down-falls, next_place, next-falls, span-for}
+use Rattle.table.specs.Places.{Place, Spot}
+use Rattle.table.proofs.Places.{down-place, down-falls, next_place, next-falls}
 use Rattle.table.proofs.Trees.{tree-kind}
 
 -- ---- a kind's row by its name

@@ -1,5 +1,4 @@
 -- The tree that stands where a construct does.
-use Rattle.std.specs.Prelude.{ℕ, List}
 use Rattle.rules.specs.Tree.{Tree}
 use Rattle.table.specs.Places.{tree_of}
 use Rattle.table.specs.declared.construct.Construct.{Construct}
