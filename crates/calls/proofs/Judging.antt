@@ -1,10 +1,13 @@
 -- The verdict of stages one after the other.
 -- Assumes nothing.
+use Rattle.std.specs.Prelude.{Result, Ok, Err, Some, None}
+use Rattle.std.specs.Prelude as code
 use mathlib.Core.Path.{◌≡◌, refl, sym, ap, ◌∙◌}
 use mathlib.Core.Bool.{Bool, true, false}
 use mathlib.Core.List.{List, [], ◌∷◌, ◌++◌, append_assoc}
 use mathlib.Core.Option.{Option, none, some}
-use Prim.Native.Nat.{ℕ, ◌/◌, ◌<◌}
+use Prim.Native.Nat.{ℕ, ◌+◌, ◌/◌, ◌^◌, ◌<◌}
+use native.Mathlib.Nat.{zero-add}
 use lib.Dec.{eqb, leb}
 use lib.IntN.{ℤ}
 use lib.ListN.{length}
@@ -20,14 +23,11 @@ use Rattle.theory.proofs.Accepted.{verdict-refused, verdict-accepted}
 use Rattle.acceptance.specs.Counts.{announced_of}
 use Rattle.acceptance.specs.Verdicts.{verdict_of}
 use Rattle.acceptance.specs.declared.Announced.{Announced}
-use Rattle.acceptance.specs.declared.Refusal as Code
-use Rattle.acceptance.specs.declared.Checked.{Checked}
-use Rattle.acceptance.specs.declared.Checked.TheVariants.{Accepted, Refused}
+use Rattle.table.specs.Refusing.{refusal_of}
+use Rattle.table.specs.declared.refusal.Refusal as Code
 use Rattle.table.specs.Found.{first_of}
 use Rattle.table.proofs.Finding.{found-fails, found_none}
 use Rattle.marks.specs.Fitting.{refused_at}
-use Rattle.table.specs.declared.Found.{Found}
-use Rattle.table.specs.declared.Found.TheVariants.{At, Nothing}
 use Rattle.calls.specs.Stages.{Low, judged, standing_stages}
 
 -- what the first stages refuse, and what they let pass
@@ -55,12 +55,12 @@ checks b = refl
 
 -- ---- after earlier stages, whose verdict the code has
 
-module _ (b : List ℕ) (xs : List Stage) {x : Checked} (e : verdict_of x ≡ judged b xs) where
-  pub stays-refused : (ys : List Stage) {r : Code.Refusal} → x ≡ Refused r → verdict_of (Refused r) ≡ judged b (xs ++ ys)
+module _ (b : List ℕ) (xs : List Stage) {x : Result Announced Code.Refusal} (e : verdict_of x ≡ judged b xs) where
+  pub stays-refused : (ys : List Stage) {r : Code.Refusal} → x ≡ Err r → verdict_of (Err r) ≡ judged b (xs ++ ys)
   unfolding judged
   stays-refused ys {r} h = sym (ap (λ (o : Option Refusal). verdict o (announced b)) (first_some xs ys (verdict-refused (first_refusal xs) (announced b) (sym e ∙ ap verdict_of h))))
 
-  module _ {a : Announced} (h : x ≡ Accepted a) where
+  module _ {a : Announced} (h : x ≡ Ok a) where
     pub all-passed : (first_refusal xs ≡ none) × (announced b ≡ announced_of a)
     unfolding judged
     all-passed = verdict-accepted (first_refusal xs) (announced b) (sym e ∙ ap verdict_of h)
@@ -73,7 +73,7 @@ module _ (b : List ℕ) (xs : List Stage) {x : Checked} (e : verdict_of x ≡ ju
     same-steps = ap (λ (n : Rules.Announced). n.steps) (sym all-passed.1)
 
     -- the last stage has passed
-    pub accepts-all : verdict_of (Accepted a) ≡ judged b []
+    pub accepts-all : verdict_of (Ok a) ≡ judged b []
     unfolding judged first_refusal
     accepts-all = ap accepted (sym all-passed.1)
 
@@ -96,30 +96,30 @@ module _ (b : List ℕ) (k : ℕ) (ss : List Stage) where
   unfolding judged first_refusal
   passes-test e h = rw (← e, h)
 
-  pub fails-first : (is : List ℕ) {x : Found} {p : ℕ} → x ≡ first_of is → x ≡ At p → judged b (stage k is ∷ ss) ≡ refused (refusal k p)
+  pub fails-first : (is : List ℕ) {x : code.Option ℕ} {p : ℕ} → x ≡ first_of is → x ≡ Some p → judged b (stage k is ∷ ss) ≡ refused (refusal k p)
   unfolding judged first_refusal
   fails-first is e d = rw (found-fails is e d k (first_refusal ss))
 
-  pub passes-first : (is : List ℕ) {x : Found} → x ≡ first_of is → x ≡ Nothing → judged b (stage k is ∷ ss) ≡ judged b ss
+  pub passes-first : (is : List ℕ) {x : code.Option ℕ} → x ≡ first_of is → x ≡ None → judged b (stage k is ∷ ss) ≡ judged b ss
   unfolding judged first_refusal
   passes-first is e d = rw (found_none is e d)
 
 -- ---- stage 8
 
-module _ (b : List ℕ) (xs : List Stage) {x : Found} (e : refused_at x ≡ first_refusal xs) where
-  pub fails-marks : {p : ℕ} → x ≡ At p → judged b xs ≡ refused (refusal 8 p)
+module _ (b : List ℕ) (xs : List Stage) {x : code.Option ℕ} (e : refused_at x ≡ first_refusal xs) where
+  pub fails-marks : {p : ℕ} → x ≡ Some p → judged b xs ≡ refused (refusal 8 p)
   unfolding judged
   fails-marks h = ap (λ (o : Option Refusal). verdict o (announced b)) (sym e ∙ ap refused_at h)
 
-  pub passes-marks : x ≡ Nothing → judged b xs ≡ judged b []
+  pub passes-marks : x ≡ None → judged b xs ≡ judged b []
   unfolding judged first_refusal
   passes-marks h = ap (λ (o : Option Refusal). verdict o (announced b)) (sym e ∙ ap refused_at h)
 
 -- ---- the last stage: room for the announced outputs, as the code has them
 
-module _ (b : List ℕ) (xs : List Stage) {x : Checked} (e : verdict_of x ≡ judged b xs) {a : Announced} (h : x ≡ Accepted a) (o : List ℕ) {y : Bool} (r : y ≡ leb a.outputs (length o / record_bytes)) where
+module _ (b : List ℕ) (xs : List Stage) {x : Result Announced Code.Refusal} (e : verdict_of x ≡ judged b xs) {a : Announced} (h : x ≡ Ok a) (o : List ℕ) {y : Bool} (r : y ≡ leb (0 + a.outputs) (length o / record_bytes)) where
   same-room : y ≡ leb (announced b).outputs (length o / record_bytes)
-  same-room = r ∙ ap (λ (n : Rules.Announced). leb n.outputs (length o / record_bytes)) (sym (all-passed b xs e h).1)
+  same-room = rw (zero-add a.outputs) at r ∙ ap (λ (n : Rules.Announced). leb n.outputs (length o / record_bytes)) (sym (all-passed b xs e h).1)
 
   pub fails-room : y ≡ false → judged b (room_stage (announced b).outputs o ∷ []) ≡ refused (refusal 11 0)
   fails-room = fails-test b 11 [] same-room
@@ -132,5 +132,5 @@ module _ (b : List ℕ) (xs : List Stage) {x : Checked} (e : verdict_of x ≡ ju
 pub standing-first : (b m : List ℕ) (v : List ℤ) (ys : List Stage) → judged b (table_stages b ++ (marks_stages b m ++ (vars_stage v ∷ ys))) ≡ judged b (standing_stages b m v ++ ys)
 standing-first b m v ys = ap (judged b) (sym (append_assoc (table_stages b) (marks_stages b m ++ (vars_stage v ∷ [])) ys ∙ ap (λ (l : List Stage). table_stages b ++ l) (append_assoc (marks_stages b m) (vars_stage v ∷ []) ys)))
 
-pub low-place : {x : Found} {p : ℕ} → x ≡ At p → Low x → p < 4294967296
+pub low-place : {x : code.Option ℕ} {p : ℕ} → x ≡ Some p → Low x → p < 2 ^ 32
 low-place e h = rw e at h

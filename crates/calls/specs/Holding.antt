@@ -5,7 +5,7 @@ use Rattle.rules.specs.Stages.{Refusal, refusal}
 use Rattle.rules.specs.Limits.{most_records}
 use Rattle.rules.specs.Marks.{all_zero}
 use Rattle.rules.specs.Calls.{onto}
-use Rattle.walks.specs.declared.Running.{Running}
+use Rattle.walks.specs.declared.running.Running.{Running}
 use Rattle.calls.specs.declared.Done.{Done}
 
 -- the first n are bytes

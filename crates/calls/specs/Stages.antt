@@ -1,5 +1,5 @@
 -- The stages that a call tests, and their verdict.
-use Rattle.std.specs.Prelude.{List, [], ◌∷◌, ◌++◌, ℕ, ◌<◌, ◌^◌, ℤ, pos, Option, None, Some}
+use Rattle.std.specs.Prelude.{List, [], ◌∷◌, ◌++◌, ◌≡◌, ℕ, ◌≤◌, ◌<◌, ◌^◌, Bool, true, false, ℤ, pos, Option, None, Some, MatchOption}
 use Rattle.rules.specs.Stages.{Stage, first_refusal}
 use Rattle.rules.specs.Check.{Verdict, verdict, announced, table_stages}
 use Rattle.rules.specs.Marks.{marks_stages}
@@ -26,6 +26,10 @@ run_stages b m v es = list_stages b (lent m v []) es
 -- of a reaction and of a list, before those of the events
 abbrev pub standing_stages : List ℕ → List ℕ → List ℤ → List Stage
 standing_stages b m v = table_stages b ++ (marks_stages b m ++ (vars_stage v ∷ []))
+
+-- the first of the numbers below n that fails a test
+abbrev pub First : (ℕ → Bool) → ℕ → Option ℕ → Type 0
+First ok n r = MatchOption r ((k : ℕ) → 0 ≤ k → k < n → ok k ≡ true) (λ i. (0 ≤ i) × (i < n) × (ok i ≡ false) × ((k : ℕ) → 0 ≤ k → k < i → ok k ≡ true))
 
 -- a place that was found is small
 abbrev pub Low : Option ℕ → Type 0

@@ -49,13 +49,7 @@ fn finished(marks: &[u8]) -> bool
 }
 
 // What ran is stored, and its counts are the answer.
-pub fn finish(
-    emitted: u64,
-    highest: u32,
-    run: &Running,
-    marks: &mut [u8],
-    vars: &mut [i32],
-) -> Done
+pub fn finish(emitted: u64, highest: u32, run: &Running, marks: &mut [u8], vars: &mut [i32]) -> Done
     requires marks_len_bound { length marks.old ≤ most_records }
     requires states_len { length run.now.states ≡ most_records }
     requires bytes { Bytes (length marks.old) run.now.states }

@@ -9,7 +9,6 @@ mod stages;
 pub use list::run_list;
 pub use one::{react, start};
 pub use stages::{first_bad, marks_stages};
-
 use table::Refusal;
 
 // What a call that is not refused says: is no mark set any more, and the counts.

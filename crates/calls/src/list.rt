@@ -1,25 +1,25 @@
 // A list of events. An event is laid out as a record of the table: its number at byte 0, its value at bytes 4 to 7.
-ghost use Rattle.std.specs.Prelude.{◌≡◌, ◌/◌, ◌≤◌, ◌<◌, length, Ok};
+ghost use Rattle.std.specs.Prelude.{◌≡◌, ◌<◌, Ok};
 ghost use Rattle.std.proofs.Math.Option.{none};
 ghost use Rattle.rules.specs.Stages.{first_refusal};
-ghost use Rattle.rules.specs.Limits.{most_records, record_bytes};
 ghost use Rattle.rules.specs.Table.{kind_at, number_at, records_of};
 ghost use Rattle.rules.specs.Check as Rules;
 ghost use Rattle.rules.specs.Lists.{list_call};
 ghost use Rattle.acceptance.specs.Counts.{announced_of};
 ghost use Rattle.calls.specs.Answers.{Ran, lent};
 ghost use Rattle.calls.specs.Stages.{run_stages};
-ghost use Rattle.calls.specs.Holding.{TookAll};
 
 use crate::Listed;
 use crate::hold::{finish, resting};
 use crate::stages::{has_room, run_stages};
 use acceptance::Announced;
+use engine::react;
 use rules::Limits;
 use table::{Construct, Refusal, Stage};
-use walks::{Listeners, Running};
+use walks::Listeners;
 
 // An event of a list.
+#[derive(Clone, Copy)]
 struct Event {
     number: usize,
     value: i32,
@@ -38,50 +38,7 @@ impl Event {
     }
 }
 
-// How many events were taken, what they counted, and refusal 12 at the first that was not taken.
-pub struct Took {
-    pub events: u64,
-    pub emitted: u64,
-    pub highest: u32,
-    pub stopped: Option<Refusal>,
-}
-
-// The events are taken one by one, each while the room has the announced outputs behind those made.
-fn take_events(
-    program: Construct<'_>,
-    announced: Announced,
-    listeners: &Listeners,
-    events: &[u8],
-    run: &mut Running,
-    out: &mut [u8],
-) -> Took {
-    let mut emitted = 0;
-    let mut highest = 0;
-    for place in 0..events.len() / Limits::RECORD_BYTES {
-        if !has_room(run.memory.outputs, announced.outputs, out) {
-            let stopped = Some(Refusal::at(Stage::Stopped, place));
-            return Took {
-                events: place as u64,
-                emitted,
-                highest,
-                stopped,
-            };
-        }
-        let event = Event::at(events, place);
-        run.memory.vars[0] = event.value;
-        let round = engine::react(program, event.number, announced.steps, listeners, run, out);
-        emitted += round.emitted;
-        highest = highest.max(round.highest);
-    }
-    Took {
-        events: (events.len() / Limits::RECORD_BYTES) as u64,
-        emitted,
-        highest,
-        stopped: None,
-    }
-}
-
-// A list whose stages pass.
+// A list whose stages pass. Each event is taken while the room has the announced outputs behind those made.
 fn run_tested(
     table: &[u8],
     announced: Announced,
@@ -97,12 +54,34 @@ fn run_tested(
     let program = Construct { table, place: 0 };
     let listeners = Listeners::of_program(table);
     let mut run = resting(marks, vars);
-    let took = take_events(program, announced, &listeners, events, &mut run, out);
-    let done = finish(took.emitted, took.highest, &run, marks, vars);
+    let mut emitted: u64 = 0;
+    let mut highest: u32 = 0;
+    let mut taken: u64 = 0;
+    let mut stopped = None;
+    for place in 0..events.len() / Limits::RECORD_BYTES {
+        if !has_room(run.memory.outputs, announced.outputs, out) {
+            stopped = Some(Refusal::at(Stage::Stopped, place));
+            break;
+        }
+        let event = Event::at(events, place);
+        run.memory.vars[0] = event.value;
+        let round = react(
+            program,
+            event.number,
+            announced.steps,
+            &listeners,
+            &mut run,
+            out,
+        );
+        emitted += round.emitted;
+        highest = highest.max(round.highest);
+        taken += 1;
+    }
+    let done = finish(emitted, highest, &run, marks, vars);
     Listed {
         done,
-        taken: took.events,
-        stopped: took.stopped,
+        taken,
+        stopped,
     }
 }
 

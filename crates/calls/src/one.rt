@@ -79,13 +79,5 @@ pub fn react(
     ensures { Uncounted (react_call table.now (lent marks.old vars.old out.old) (sent_of event value)) result marks.new vars.new out.new }
 {
     let announced = react_stages(table, marks, vars, event, out)?;
-    Ok(react_tested(
-        table,
-        announced.steps,
-        marks,
-        vars,
-        event,
-        value,
-        out,
-    ))
+    Ok(react_tested(table, announced.steps, marks, vars, event, value, out))
 }

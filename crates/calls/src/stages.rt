@@ -1,5 +1,5 @@
 // What a call tests before it runs: stages 1 to 11, and those of a list.
-ghost use Rattle.std.specs.Prelude.{◌≡◌, ◌++◌, ◌<◌, ◌/◌, leb, length};
+ghost use Rattle.std.specs.Prelude.{◌≡◌, ◌++◌, ◌+◌, ◌<◌, ◌≤◌, ◌/◌, leb, length};
 ghost use Rattle.rules.specs.Stages.{within};
 ghost use Rattle.rules.specs.Limits.{record_bytes, most_name};
 ghost use Rattle.rules.specs.Check.{table_stages};
@@ -7,16 +7,18 @@ ghost use Rattle.rules.specs.Marks.{marks_stages};
 ghost use Rattle.rules.specs.Lists.{event_right, list_fails};
 ghost use Rattle.acceptance.specs.Verdicts.{verdict_of};
 ghost use Rattle.table.specs.Found.{first_of};
-ghost use Rattle.calls.specs.Stages.{judged, start_stages, standing_stages, react_stages, run_stages, Low};
+ghost use Rattle.calls.specs.Stages.{judged, start_stages, standing_stages, react_stages, run_stages, First, Low};
 
 use acceptance::Announced;
 use rules::Limits;
 use table::{Refusal, Stage};
 
-fn has_room(outputs: u32, out: &[u8]) -> bool
-    ensures { result ≡ leb outputs (length out.now / record_bytes) }
+// Room for so many outputs behind those made.
+pub fn has_room(made: u64, outputs: u32, out: &[u8]) -> bool
+    requires { made ≤ length out.now / record_bytes }
+    ensures { result ≡ leb (made + outputs) (length out.now / record_bytes) }
 {
-    outputs as usize <= out.len() / Limits::RECORD_BYTES
+    made + u64::from(outputs) <= (out.len() / Limits::RECORD_BYTES) as u64
 }
 
 fn is_event(event: u32) -> bool
@@ -40,7 +42,7 @@ pub fn start_stages(
     if vars.len() != Limits::VARIABLES {
         return Err(Refusal::at(Stage::Variables, 0));
     }
-    if !has_room(announced.outputs, out) {
+    if !has_room(0, announced.outputs, out) {
         return Err(Refusal::at(Stage::Room, 0));
     }
     Ok(announced)
@@ -81,7 +83,7 @@ pub fn react_stages(
     if !is_event(event) {
         return Err(Refusal::at(Stage::Event, 0));
     }
-    if !has_room(announced.outputs, out) {
+    if !has_room(0, announced.outputs, out) {
         return Err(Refusal::at(Stage::Room, 0));
     }
     Ok(announced)
@@ -96,6 +98,13 @@ fn event_right(events: &[u8], i: usize) -> bool
     is_event(u32::from(events[at])) && events[at + 1..at + 4] == [0, 0, 0]
 }
 
+// The first event that is not right.
+fn first_wrong(events: &[u8]) -> Option<usize>
+    ensures { First (event_right events.now) (length events.now / record_bytes) result }
+{
+    (0..events.len() / Limits::RECORD_BYTES).find(|i| !event_right(events, *i))
+}
+
 // The first bad record of a list, a broken last one included; 8192 for a list too long.
 pub fn first_bad(events: &[u8]) -> Option<usize>
     ensures first { result ≡ first_of (list_fails events.now) }
@@ -104,12 +113,11 @@ pub fn first_bad(events: &[u8]) -> Option<usize>
     if events.len() > Limits::LIST_BYTES {
         return Some(Limits::LIST_TOO_LONG);
     }
-    let whole = events.len() / Limits::RECORD_BYTES;
-    if let Some(bad) = (0..whole).find(|i| !event_right(events, *i)) {
-        return Some(bad);
+    if let Some(wrong) = first_wrong(events) {
+        return Some(wrong);
     }
     if events.len() % Limits::RECORD_BYTES != 0 {
-        return Some(whole);
+        return Some(events.len() / Limits::RECORD_BYTES);
     }
     None
 }
