@@ -1,8 +1,9 @@
--- The events of a list: the first that is not right, and stage 10 of the whole list.
+-- What a search over marks or events finds: no mark set; the first event that is not right, and stage 10 of the whole list.
 -- Assumes nothing.
+use Rattle.std.specs.List.{list_all}
 use Rattle.std.specs.Prelude.{if◌then◌else◌, Option, None, Some}
 use mathlib.Core.Path.{◌≡◌, refl, sym, ap, ◌∙◌}
-use mathlib.Core.Bool.{Bool, true, false}
+use mathlib.Core.Bool.{Bool, true, false, ◌&&◌}
 use mathlib.Core.List.{List, [], ◌∷◌, ◌++◌}
 use Prim.Native.Nat.{ℕ, zero, suc, ◌-◌, ◌/◌, ◌%◌, ◌≤◌, ◌<◌}
 use native.Mathlib.Numerals.{add-one}
@@ -12,10 +13,20 @@ use lib.ListN.{length}
 use borrow.Author.Tests.{eq-eqb, ne_eqb, le-ltb}
 use Rattle.rules.specs.Stages.{failing}
 use Rattle.rules.specs.Limits.{most_list_bytes, record_bytes}
+use Rattle.rules.specs.Marks.{all_zero}
 use Rattle.rules.specs.Lists.{event_right, list_fails}
 use Rattle.table.specs.Found.{first_of, or_next}
 use Rattle.table.proofs.Finding.{failing-all, failing-passes, failing-fails, failing-over, first-append}
 use Rattle.calls.specs.Stages.{First}
+
+-- ---- no mark is set
+
+pub all_zeros : (m : List ℕ) → list_all (λ x. eqb x 0) m ≡ all_zero m
+unfolding all_zero
+all_zeros [] = refl
+all_zeros (x ∷ xs) = ap (λ (b : Bool). eqb x 0 && b) (all_zeros xs)
+
+-- ---- the events of a list
 
 module _ (ok : ℕ → Bool) (n : ℕ) where
   passes-before : (i : ℕ) → i ≤ n → ((k : ℕ) → 0 ≤ k → k < i → ok k ≡ true) → failing ok 0 n ≡ failing ok i (n - i)
@@ -28,21 +39,23 @@ module _ (ok : ℕ → Bool) (n : ℕ) where
   first-fails None h = sym (ap first_of (passes-before n (omega arith) h ∙ failing-over ok n n (omega arith)))
   first-fails (Some i) h = sym (ap first_of (passes-before i (omega arith) h.3 ∙ failing-fails ok i n h.1 h.2))
 
-module _ (es : List ℕ) (short : length es ≤ most_list_bytes) {r : Option ℕ} (f : First (event_right es) (length es / record_bytes) r) where
-  abbrev last : List ℕ
-  last = if eqb (length es % record_bytes) 0 then [] else length es / record_bytes ∷ []
+-- where the last record is broken
+abbrev broken : List ℕ → List ℕ
+broken es = if eqb (length es % record_bytes) 0 then [] else length es / record_bytes ∷ []
 
-  all-fails : first_of (list_fails es) ≡ or_next r (first_of last)
-  all-fails =
-      ap first_of (rw (le-ltb most_list_bytes (length es) short))
-      ∙ first-append (failing (event_right es) 0 (length es / record_bytes)) last
-      ∙ ap (λ (x : Option ℕ). or_next x (first_of last)) (sym (first-fails (event_right es) (length es / record_bytes) r f))
+module _ (es : List ℕ) (short : length es ≤ most_list_bytes) (r : Option ℕ) (f : First (event_right es) (length es / record_bytes) r) where
+  all-fails : (l : List ℕ) → broken es ≡ l → first_of (list_fails es) ≡ or_next r (first_of l)
+  all-fails l e =
+      let fails : list_fails es ≡ failing (event_right es) 0 (length es / record_bytes) ++ l = rw (le-ltb most_list_bytes (length es) short, e) in
+      ap first_of fails
+      ∙ first-append (failing (event_right es) 0 (length es / record_bytes)) l
+      ∙ ap (λ (x : Option ℕ). or_next x (first_of l)) (sym (first-fails (event_right es) (length es / record_bytes) r f))
 
   pub wrong-event : {i : ℕ} → r ≡ Some i → Some i ≡ first_of (list_fails es)
-  wrong-event e = sym (rw e at all-fails)
+  wrong-event e = sym (rw e at (all-fails (broken es) refl))
 
   pub broken-last : r ≡ None → (length es % record_bytes ≡ 0 → ⊥) → Some (length es / record_bytes) ≡ first_of (list_fails es)
-  broken-last e x = sym (rw (e, ne_eqb (length es % record_bytes) 0 x) at all-fails)
+  broken-last e x = sym (rw e at (all-fails (length es / record_bytes ∷ []) (rw (ne_eqb (length es % record_bytes) 0 x))))
 
   pub none-bad : r ≡ None → length es % record_bytes ≡ 0 → None ≡ first_of (list_fails es)
-  none-bad e x = sym (rw (e, eq-eqb (length es % record_bytes) 0 x) at all-fails)
+  none-bad e x = sym (rw e at (all-fails [] (rw (eq-eqb (length es % record_bytes) 0 x))))
