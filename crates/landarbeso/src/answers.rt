@@ -1,4 +1,4 @@
-// What a start, a reaction and a list answer to C.
+// What a start, a reaction and a list answer to C, which reads a refusal as its number, 0 for none.
 ghost use Rattle.std.specs.Prelude.{◌≡◌};
 ghost use Rattle.std.proofs.Math.Option.{none, some};
 ghost use Rattle.table.specs.Refusing.{refusal_of};

@@ -1,4 +1,4 @@
-// The calls of document 01, each for every input.
+// The calls of document 01, each for every input. C lends each part by itself, so each is a parameter of its own.
 #![tactic(auto)]
 
 ghost use Rattle.std.specs.Prelude.{◌≡◌};
@@ -49,7 +49,7 @@ fn react(
     ensures { Meant (react_call table.now (lent_of marks.old vars.old out.old (totals_of totals.old)) (sent_of event value)) (flat_done result) marks.new vars.new out.new totals.new }
 {
     let done = calls::react(table, marks, vars, event, value, out)?;
-    totals::count(totals, 1, done.steps);
+    totals.count(1, done.steps);
     Ok(done)
 }
 
@@ -79,7 +79,7 @@ fn run_list(
     ensures { Meant (list_call table.now (lent_of marks.old vars.old out.old (totals_of totals.old)) events.now) (flat_listed result) marks.new vars.new out.new totals.new }
 {
     let listed = calls::run_list(table, marks, vars, events, out)?;
-    totals::count(totals, listed.taken, listed.done.steps);
+    totals.count(listed.taken, listed.done.steps);
     Ok(listed)
 }
 

@@ -1,4 +1,4 @@
-// What the check, the query and the remaining program answer to C.
+// What the check, the query and the remaining program answer to C, which reads a refusal as its number, 0 for none.
 ghost use Rattle.std.specs.Prelude.{◌≡◌};
 ghost use Rattle.acceptance.specs.Verdicts.{verdict_of};
 ghost use Rattle.landarbeso.specs.Numbers.{numbers_of, flat_asked, flat_written};

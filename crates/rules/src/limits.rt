@@ -72,7 +72,7 @@ impl Limits {
         }
     }
 
-    // The most internal events of a reaction.
+    // The most of a reaction: internal events, level, steps and outputs. Each takes the counts that its definition takes, which differ, and so no struct of them all.
     pub fn emitted(emits: u16, loops: u8) -> u64
         ensures { result ≡ most_emitted emits loops }
     {

@@ -19,10 +19,10 @@ impl Totals {
             steps: self.steps.saturating_add(steps),
         }
     }
-}
 
-pub fn count(totals: &mut Totals, reactions: u64, steps: u64)
-    ensures { Counted totals.old reactions steps totals.new }
-{
-    *totals = totals.with(reactions, steps);
+    pub fn count(&mut self, reactions: u64, steps: u64)
+        ensures { Counted self.old reactions steps self.new }
+    {
+        *self = self.with(reactions, steps);
+    }
 }
