@@ -41,7 +41,7 @@ pub record Part (b m : List ℕ) (i : ℕ) (p : Counted) : Type 0 where
   pub table : p.at.table.now ≡ b
   pub marks : p.at.marks.now ≡ m
   pub after : i < p.at.place
-  pub falls : span_at b p.at.place < span_at b i
+  pub falls : span_at p.at.table.now p.at.place < span_at b i
 
 -- what a head has behind what remains of the first part: an and or an or what remains of the other, else the other whole
 abbrev pub other_span : Head → List ℕ → Tree → ℕ

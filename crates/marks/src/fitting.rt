@@ -1,14 +1,14 @@
 // Stage 8: the marks' number, each mark by itself, and whether the marks fit.
-ghost use Rattle.std.specs.Prelude.{◌≡◌, true, ◌||◌, ◌+◌, ◌≤◌, ◌<◌, length};
+ghost use Rattle.std.specs.Prelude.{◌≡◌, ◌||◌, ◌+◌, ◌≤◌, ◌<◌, length};
 ghost use Rattle.rules.specs.Limits.{most_records};
 ghost use Rattle.rules.specs.Stages.{failing, first_refusal};
 ghost use Rattle.rules.specs.Table.{records_of};
 ghost use Rattle.rules.specs.Marks.{mark_right, marks_stages};
 ghost use Rattle.table.specs.Places.{Place, tree_of};
 ghost use Rattle.table.specs.Found.{first_of, Inside};
-ghost use Rattle.marks.specs.Fitting.{misfits_here, seen_of, join_seen, side_fit, par_fit, Fits, FitFrom, LetsPass, refused_at};
+ghost use Rattle.marks.specs.Fitting.{Spot, misfits_here, seen_of, join_seen, side_fit, par_fit, Says, FitFrom, LetsPass, refused_at};
 
-use crate::marked::{Marked, may_mark};
+use crate::marked::Marked;
 use rules::Limits;
 use table::{Kind, Par};
 
@@ -20,12 +20,18 @@ fn first_mark(table: &[u8], marks: &[u8]) -> Option<usize>
     ensures inside { Inside table.now result }
 {
     let records = table.len() / Limits::RECORD_BYTES;
-    (0..records).find(|place| !Marked {
-        table,
-        marks,
-        place: *place,
-    }
-    .is_right())
+    (0..records).find(
+        |place|
+            requires { Spot table.now marks.now place.now }
+        {
+            !Marked {
+                table,
+                marks,
+                place: *place,
+            }
+            .is_right()
+        },
+    )
 }
 
 // What the marks say of a construct: whether it has one, and the lowest construct in it that does not fit.
@@ -65,23 +71,21 @@ fn see(at: Marked<'_>) -> Seen
     ensures inside { Inside at.entry.table.now result.misfit }
 {
     let kind = at.kind();
-    if may_mark(kind) {
-        return Seen {
+    match kind {
+        Kind::Await(_) | Kind::Every(_) | Kind::Fin => Seen {
             marked: at.is_marked(),
             misfit: None,
-        };
-    }
-    match kind.children() {
-        0 => Seen {
-            marked: false,
-            misfit: None,
         },
-        1 => see(at.first()),
-        _ => {
+        Kind::If | Kind::Sequence | Kind::Par(_) => {
             let left = see(at.first());
             let right = see(at.second());
             join_seen(kind, at.place, left, right)
         }
+        Kind::Loop => see(at.first()),
+        _ => Seen {
+            marked: false,
+            misfit: None,
+        },
     }
 }
 
@@ -117,17 +121,20 @@ fn par_fit(par: Par, left: Fit, right: Fit) -> Fit
     }
 }
 
-// The same of a construct whose own mark is right, from the places after it.
+// The same of any construct, from the places after it.
 fn fit_at(at: Marked<'_>, fits: &[Fit; Limits::RECORDS]) -> Fit
     requires few { records_of at.table.now ≤ most_records }
-    requires right { mark_right at.table.now at.marks.now at.place ≡ true }
-    requires fit_from { FitFrom at.table.now at.marks.now (at.place + 1) fits.now }
-    ensures { Fits at.entry.table.now at.entry.marks.now at.entry.place result }
+    requires known { FitFrom at.table.now at.marks.now (at.place + 1) fits.now }
+    ensures { Says result (seen_of at.entry.marks.now (tree_of at.entry.table.now at.entry.place)) }
 {
-    if at.is_marked() {
-        return Fit::Marked;
-    }
     match at.kind() {
+        Kind::Await(_) | Kind::Every(_) | Kind::Fin => {
+            if at.is_marked() {
+                Fit::Marked
+            } else {
+                Fit::Unmarked
+            }
+        }
         Kind::If | Kind::Sequence => side_fit(fits[at.first().place], fits[at.second().place]),
         Kind::Loop => fits[at.first().place],
         Kind::Par(par) => par_fit(par, fits[at.first().place], fits[at.second().place]),

@@ -1,9 +1,10 @@
 // A query: the input events that now wake some place, as a 64-bit set with bit e for event e.
-ghost use Rattle.std.specs.Prelude.{◌≡◌, ◌<◌, length, get_or};
+ghost use Rattle.std.specs.Prelude.{◌≡◌, ◌||◌, eqb, length, get_or};
 ghost use Rattle.std.proofs.Math.Option.{none};
 ghost use Rattle.std.specs.Int.Count.{ones};
 ghost use Rattle.rules.specs.Stages.{first_refusal};
-ghost use Rattle.rules.specs.Table.{records_of, program_of};
+ghost use Rattle.rules.specs.Table.{program_of};
+ghost use Rattle.table.specs.Named.{kind_number};
 ghost use Rattle.rules.specs.Marks.{marks_stages, at_rest};
 ghost use Rattle.rules.specs.Query as Query;
 ghost use Rattle.marks.specs.Fitting.{Sound};
@@ -13,6 +14,16 @@ use crate::marked::Marked;
 use rules::Limits;
 use table::{Kind, Source};
 
+// Await input and every input.
+fn hears(kind: Kind) -> bool
+    ensures { result ≡ (eqb (kind_number kind) 8 || eqb (kind_number kind) 15) }
+{
+    matches!(
+        kind,
+        Kind::Await(Source::Input) | Kind::Every(Source::Input)
+    )
+}
+
 // The event that a construct waits for where it is marked, as a set.
 fn heard_at(at: Marked<'_>) -> u64
     requires { Sound at.table.now }
@@ -21,15 +32,15 @@ fn heard_at(at: Marked<'_>) -> u64
     if !at.is_marked() {
         return 0;
     }
-    match at.kind() {
-        Kind::Await(Source::Input) | Kind::Every(Source::Input) => 1u64 << at.name(),
-        _ => 0,
+    if hears(at.kind()) {
+        1u64 << at.name()
+    } else {
+        0
     }
 }
 
 // The next record; behind an every or a fin the next construct, as what is inside does not wait.
 fn next_at(at: Marked<'_>) -> usize
-    requires { Sound at.table.now }
     ensures { result ≡ next_at at.entry.table.now at.entry.place }
 {
     match at.kind() {

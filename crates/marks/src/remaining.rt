@@ -96,12 +96,7 @@ pub fn remaining_span(table: &[u8], marks: &[u8]) -> usize
     ensures two_bytes { result < 65536 }
 {
     let rests = rests_of(table, marks);
-    let at = Marked {
-        table,
-        marks,
-        place: 0,
-    };
-    let program = Counted { at, rests: &rests };
+    let program = Counted::program(table, marks, &rests);
     program.count().max(1)
 }
 
@@ -115,12 +110,7 @@ pub fn write_remaining(table: &[u8], marks: &[u8], out: &mut [u8]) -> usize
     ensures written { out.new ≡ onto (records_for (at_rest marks.now (program_of table.now))) out.old }
 {
     let rests = rests_of(table, marks);
-    let at = Marked {
-        table,
-        marks,
-        place: 0,
-    };
-    let program = Counted { at, rests: &rests };
+    let program = Counted::program(table, marks, &rests);
     let span = program.count();
     if span == 0 {
         write_head(out, 0, 0, 1);

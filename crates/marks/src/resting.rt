@@ -3,7 +3,7 @@ ghost use Rattle.std.specs.Prelude.{◌≡◌, ◌+◌, ◌<◌};
 ghost use Rattle.table.specs.Places.{tree_of};
 ghost use Rattle.marks.specs.Fitting.{Sound};
 ghost use Rattle.marks.specs.Rest.{rest_span, Rests};
-ghost use Rattle.marks.specs.Leaving.{head_number, count_of, joined, Leaves};
+ghost use Rattle.marks.specs.Leaving.{head_number, count_of, joined, other_span, Leaves};
 
 use crate::counted::Counted;
 use crate::marked::Marked;
@@ -28,6 +28,17 @@ impl Head {
             Head::Loop => 20,
             Head::Par(Par::And) => 21,
             Head::Par(Par::Or) => 22,
+        }
+    }
+
+    // How many records it has of the other part.
+    fn other_count(self, other: Counted<'_>) -> usize
+        ensures count { result ≡ other_span self other.entry.at.marks.now (tree_of other.entry.at.table.now other.entry.at.place) }
+        ensures two_bytes { result < 65536 }
+    {
+        match self {
+            Head::Sequence | Head::Loop => other.at.span(),
+            Head::Par(_) => other.count(),
         }
     }
 }
@@ -64,7 +75,13 @@ pub fn rest_at<'a>(at: Marked<'a>, rests: &'a [u16; Limits::RECORDS]) -> Rest<'a
 {
     let kind = at.kind();
     match kind {
-        Kind::Await(_) | Kind::Every(_) | Kind::Fin if at.is_marked() => Rest::Whole,
+        Kind::Await(_) | Kind::Every(_) | Kind::Fin => {
+            if at.is_marked() {
+                Rest::Whole
+            } else {
+                Rest::Nothing
+            }
+        }
         Kind::If | Kind::Sequence | Kind::Par(_) => {
             let first = at.first();
             let second = at.second();
@@ -96,7 +113,6 @@ pub fn count_at<'a>(at: Marked<'a>, rests: &'a [u16; Limits::RECORDS]) -> usize
         Rest::Nothing => 0,
         Rest::Whole => at.span(),
         Rest::Only(part) => part.count(),
-        Rest::Both(Head::Par(_), first, other) => 1 + first.count() + other.count(),
-        Rest::Both(_, first, other) => 1 + first.count() + other.at.span(),
+        Rest::Both(head, first, other) => 1 + first.count() + head.other_count(other),
     }
 }

@@ -1,0 +1,6 @@
+-- The places from here on are counted.
+use Rattle.marks.specs.Rest.{Rests}
+use Rattle.marks.proofs.remaining.rests_of.Given as goal
+
+abbrev pub invariant-loop-place : goal.invariant-loop-place
+invariant-loop-place l = Rests l.table l.marks l.place l.rests
