@@ -72,7 +72,7 @@ loaded b m v o k l t =
     record {
       stands = rest-stands m v o t k.vars l;
       shows = λ j h. rw t.states-are (get_or-append m (drop (length m) idle) 0 j (omega arith));
-      long = ap length t.states-are ∙ omega (arith, length-append m (drop (length m) idle), length-drop (length m) idle, length-replicate most_records 0, passed-few b k.table);
+      long = ap length t.states-are ∙ omega (arith, length-append m (drop (length m) idle), length-drop (length m) idle, length-replicate {A = ℕ} most_records 0, passed-few b k.table);
       emitted-is = refl;
       highest-is = refl;
       held = none-held b (lent m v o) (length o / record_bytes) k.marks k.vars;
@@ -138,7 +138,7 @@ module _ (b m : List ℕ) (v : List ℤ) (o : List ℕ) (p : first_refusal (star
   pub started : length o ≤ top_total → {run : Running} → Resting [] v run → {steps : ℕ} → steps ≡ (announced b).steps → {r : Rounded} {run' : Running} {o' : List ℕ} →
       round_of r run' o' ≡ begin array_ops (tree_of b 0) steps run.states (arrays_of (valued (pos 0) run).memory o) → Holds b o 1 (join_run b no_totals (start b v) (none_taken (lent m v o))) run' o' r.emitted r.highest
   started l {run} t n {r} {run'} {o'} w =
-      starts b start-table (passed-few b start-table) o r run' o' (lent m v o) no_totals run o start-vars (rest-stands [] v o t start-vars l) (ap length t.states-are ∙ length-replicate most_records 0)
+      starts b start-table (passed-few b start-table) o r run' o' (lent m v o) no_totals run o start-vars (rest-stands [] v o t start-vars l) (ap length t.states-are ∙ length-replicate {A = ℕ} most_records 0)
       (λ j h. rw t.states-are (get_or-replicate most_records j 0 0 (omega (arith, passed-few b start-table))))
       (roomy (announced b).outputs o (next (vars_stage v) (room_stage (announced b).outputs o ∷ []) later).later) (rw n at w)
 

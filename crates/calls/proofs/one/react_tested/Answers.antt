@@ -15,7 +15,7 @@ pub resting-run-requires-clause-vars_len : goal.resting-run-requires-clause-vars
 resting-run-requires-clause-vars_len c = (react-ready c.args.table.now c.args.marks.now c.args.vars.now c.args.event c.args.value c.args.out.now c.requires.out_value).vars
 
 pub invariant_of-program : goal.invariant_of-program
-invariant_of-program c = passed-spot c.args.table.now (react-ready c.args.table.now c.args.marks.now c.args.vars.now c.args.event c.args.value c.args.out.now c.requires.out_value).table
+invariant_of-program c = record { stands = passed-spot c.args.table.now (react-ready c.args.table.now c.args.marks.now c.args.vars.now c.args.event c.args.value c.args.out.now c.requires.out_value).table }
 
 pub react-round-requires-clause-most_le_most_rounds : goal.react-round-requires-clause-most_le_most_rounds
 react-round-requires-clause-most_le_most_rounds c =

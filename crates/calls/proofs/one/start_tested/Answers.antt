@@ -12,7 +12,7 @@ pub resting-run-requires-clause-vars_len : goal.resting-run-requires-clause-vars
 resting-run-requires-clause-vars_len c = start-vars c.args.table.now c.args.marks.now c.args.vars.now c.args.out.now c.requires.out_value
 
 pub invariant_of-program : goal.invariant_of-program
-invariant_of-program c = passed-spot c.args.table.now (start-table c.args.table.now c.args.marks.now c.args.vars.now c.args.out.now c.requires.out_value)
+invariant_of-program c = record { stands = passed-spot c.args.table.now (start-table c.args.table.now c.args.marks.now c.args.vars.now c.args.out.now c.requires.out_value) }
 
 pub begin-round-requires-clause-most_le_most_rounds : goal.begin-round-requires-clause-most_le_most_rounds
 begin-round-requires-clause-most_le_most_rounds c =
