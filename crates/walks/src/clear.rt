@@ -2,13 +2,12 @@
 ghost use Rattle.std.specs.Prelude.{◌≡◌};
 ghost use Rattle.theory.specs.State.{sweep};
 ghost use Rattle.table.specs.Constructs.{tree};
-ghost use Rattle.table.specs.Named.{Stands};
 ghost use Rattle.memory.specs.Acts.{arrays_of};
 ghost use Rattle.walks.specs.Walks.{array_ops, cleared};
 
 use crate::running::Running;
 use crate::settle::settle;
-use table::{Construct, Kind, Par};
+use table::{Construct, Kind};
 
 // Did anything live there?
 #[cycle(clear)]
@@ -20,7 +19,17 @@ pub fn clear(at: Construct<'_>, run: &mut Running, out: &mut [u8]) -> bool
         // One side lives at most.
         Kind::If | Kind::Sequence => clear(at.first(), run, out) || clear(at.second(), run, out),
         Kind::Loop => clear(at.first(), run, out),
-        Kind::Par(par) => clear_par(at, par, run, out),
+        // Where its right had not started, that is idle.
+        Kind::Par(_) => {
+            let held = run.states[at.place] != 0;
+            run.states[at.place] = 0;
+            let left = clear(at.first(), run, out);
+            let right = held || clear(at.second(), run, out);
+            if left && right {
+                run.memory.tick();
+            }
+            left || right
+        }
         Kind::Fin => {
             let lived = run.states[at.place] != 0;
             if lived {
@@ -35,27 +44,4 @@ pub fn clear(at: Construct<'_>, run: &mut Running, out: &mut [u8]) -> bool
             lived
         }
     }
-}
-
-// An and or or: where its right had not started, that is idle.
-#[cycle(clear)]
-#[tactic(auto, using(crate::proofs::Nodes::sweep_node), unfolding(theory::specs::State::sweep))]
-fn clear_par(at: Construct<'_>, par: Par, run: &mut Running, out: &mut [u8]) -> bool
-    requires { Stands at.table.now at.place (Kind.Par par) }
-    ensures { cleared result run.new out.new ≡ sweep array_ops (tree at.entry) run.old.states (arrays_of run.old.memory out.old) }
-{
-    let held = run.states[at.place] != 0;
-    run.states[at.place] = 0;
-    let left = clear(at.first(), run, out);
-    if held {
-        if left {
-            run.memory.tick();
-        }
-        return true;
-    }
-    let right = clear(at.second(), run, out);
-    if left && right {
-        run.memory.tick();
-    }
-    left || right
 }

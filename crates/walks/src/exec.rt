@@ -130,7 +130,7 @@ fn exec_par(at: Construct<'_>, par: Par, n: u32, run: &mut Running, out: &mut [u
     run.memory.tick();
     let how = exec(first, n, run, out);
     match how {
-        How::Idle => How::Idle,
+        How::Idle => how,
         How::Ended => {
             run.memory.tick();
             match par {
@@ -153,9 +153,9 @@ fn exec_par(at: Construct<'_>, par: Par, n: u32, run: &mut Running, out: &mut [u
             let right = exec(second, n, run, out);
             after_right(first, par, right, run, out)
         }
-        How::Ringing(event) => {
+        How::Ringing(_) => {
             run.states[at.place] = n;
-            How::Ringing(event)
+            how
         }
     }
 }

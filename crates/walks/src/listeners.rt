@@ -12,7 +12,7 @@ use table::{Kind, Source, kind_at, name_at};
 const EVENTS: usize = Limits::NAME + 1;
 
 // The reach of each event's listeners, by the event's number.
-#[derive(Clone, Copy, Debug, PartialEq, Eq)]
+#[derive(Drop)]
 pub struct Listeners {
     input: [Reach; EVENTS],
     internal: [Reach; EVENTS],
@@ -23,6 +23,11 @@ impl Listeners {
     const NOWHERE: Reach = Reach {
         from: Limits::RECORDS,
         to: 0,
+    };
+
+    const ANYWHERE: Reach = Reach {
+        from: 0,
+        to: Limits::RECORDS,
     };
 
     // All listeners of the program count.
@@ -72,15 +77,10 @@ impl Listeners {
     pub fn reach(&self, source: Source, event: usize) -> Reach
         ensures { result ≡ reach_of self.now source event }
     {
-        if event < EVENTS {
-            return match source {
-                Source::Input => self.input[event],
-                Source::Internal => self.internal[event],
-            };
-        }
-        Reach {
-            from: 0,
-            to: Limits::RECORDS,
-        }
+        let row = match source {
+            Source::Input => &self.input,
+            Source::Internal => &self.internal,
+        };
+        row.get(event).copied().unwrap_or(Self::ANYWHERE)
     }
 }
