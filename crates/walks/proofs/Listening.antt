@@ -7,19 +7,18 @@ use lib.Seq.{get_or-set_other}
 use borrow.Author.Tests.{eqb-true, eqb-false, eq-eqb, ne_eqb, lt-ltb, ltb-true, ltb-false}
 use Rattle.rules.specs.Limits.{most_records}
 use Rattle.rules.specs.Table.{kind_at, name_at, span_at, second_at, records_of}
-use Rattle.rules.specs.Step.{wakes}
-use Rattle.theory.specs.State.{awake, wake_at}
+use Rattle.theory.specs.State.{wake_at}
 use Rattle.table.specs.Kinds.{children_of}
-use Rattle.table.specs.Places.{Place, tree_of}
+use Rattle.table.specs.Places.{Place}
 use Rattle.table.specs.declared.kind.Source.{Source}
 use Rattle.table.specs.declared.kind.Source.TheVariants.{Input, Internal}
-use Rattle.table.proofs.Places.{children-from, span_pos, down-place, down-falls, next_place, next-falls}
+use Rattle.table.proofs.Places.{span_pos, down-place, next_place}
 use Rattle.table.proofs.Trees.{span-inside}
-use Rattle.walks.specs.Walks.{event_from, hears}
+use Rattle.walks.specs.Walks.{hears}
 use Rattle.walks.specs.declared.listeners.Listeners.{Listeners}
 use Rattle.walks.specs.declared.part.Reach.{Reach}
 use Rattle.walks.specs.Listening.{Hear, nowhere, anywhere, widened_if, heard, reach_of, Tight, Listens, PartWith, itself, the-body, the-left, the-right, HeardIn}
-use Rattle.walks.proofs.Waking.{awake-record}
+use Rattle.walks.proofs.Waking.{woken, woken_at, awake-record, woken-along, loop-down}
 
 -- ---- every listener counts
 
@@ -62,49 +61,30 @@ loop-alone : (k : ℕ) → k ≡ 14 → children_of k ≡ 2 → ⊥
 unfolding children_of
 loop-alone k e h = omega (arith, rw e at h)
 
-loop-down : (k : ℕ) → k ≡ 14 → 1 ≤ children_of k
-loop-down k e = children-from 14 e tt
-
 module _ (b : List ℕ) (x : Source) (e : ℕ) where
-  Deaf : ℕ → Type 0
-  Deaf i = (k : ℕ) → i ≤ k → k < i + span_at b i → hears (kind_at b k) (name_at b k) x e ≡ false
+  -- no record of the part listens
+  abbrev Deaf : ℕ → Type 0
+  Deaf i = (k : ℕ) → i ≤ k → k < i + span_at b i → hears (kind_at b k) (name_at b k) x e ≡ true → ⊥
 
-  deaf-node : (i : ℕ) (p : Place b i) (l : List ℕ) → hears (kind_at b i) (name_at b i) x e ≡ false → (1 ≤ children_of (kind_at b i) → awake (wakes (event_from x e)) (tree_of b (i + 1)) l ≡ l) → (2 ≤ children_of (kind_at b i) → awake (wakes (event_from x e)) (tree_of b (second_at b i)) l ≡ l) → awake (wakes (event_from x e)) (tree_of b i) l ≡ l
-  deaf-node i p l own down next = awake-record b i p l x e ∙ go (eqb (children_of (kind_at b i)) 2) refl (eqb (kind_at b i) 14) refl
-    where
-      go : (y : Bool) → eqb (children_of (kind_at b i)) 2 ≡ y → (z : Bool) → eqb (kind_at b i) 14 ≡ z →
-          (if y then awake (wakes (event_from x e)) (tree_of b (second_at b i)) (awake (wakes (event_from x e)) (tree_of b (i + 1)) l) else if z then awake (wakes (event_from x e)) (tree_of b (i + 1)) l else wake_at (hears (kind_at b i) (name_at b i) x e) i l) ≡ l
-      go true y z w = let c = eqb-true (children_of (kind_at b i)) 2 y in rw (down (omega arith)) (next (omega arith))
-      go false y true w = down (loop-down (kind_at b i) (eqb-true (kind_at b i) 14 w))
-      go false y false w = rw own
-
-  deaf-at : (f i : ℕ) (p : Place b i) (l : List ℕ) → span_at b i ≤ f → Deaf i → awake (wakes (event_from x e)) (tree_of b i) l ≡ l
-  unfolding Deaf
-  deaf-at zero i p l h g = absurd (omega (arith, span_pos b i p))
-  deaf-at (suc f) i p l h g =
-      deaf-node i p l (g i (omega arith) (omega (arith, span_pos b i p)))
-      (λ c. deaf-at f (i + 1) (down-place b i p c) l (omega (arith, down-falls b i p c)) (λ k y z. g k (omega arith) (omega (arith, down-falls b i p c))))
-      (λ c. deaf-at f (second_at b i) (next_place b i p c) l (omega (arith, next-falls b i p c)) (λ k y z. g k (omega arith) (omega (arith, next-falls b i p c))))
+  deaf-part : (i : ℕ) → Place b i → Deaf i → (l : List ℕ) → woken b x e i l ≡ l
+  deaf-part i p g = woken-along b x e (λ l m. m ≡ l) (λ l m n u v. v ∙ u) i p (λ k y z l. ap (λ (c : Bool). wake_at c k l) (not_so (hears (kind_at b k) (name_at b k) x e) (g k y z)))
 
   module _ (r : Reach) (hear : Hear b x e r) where
-    pub deaf-behind : (i : ℕ) (p : Place b i) (l : List ℕ) → r.to ≤ i → awake (wakes (event_from x e)) (tree_of b i) l ≡ l
-    unfolding Deaf
-    deaf-behind i p l h = deaf-at (span_at b i) i p l (omega arith) (λ k y z. not_so (hears (kind_at b k) (name_at b k) x e) (λ q. omega (arith, (hear k (omega (arith, span-inside b i p)) q).1)))
+    pub deaf-behind : (i : ℕ) → Place b i → (l : List ℕ) → r.to ≤ i → woken b x e i l ≡ l
+    deaf-behind i p l h = deaf-part i p (λ k y z q. omega (arith, (hear k (omega (arith, span-inside b i p)) q).1)) l
 
-    pub deaf-before : (i : ℕ) (p : Place b i) (l : List ℕ) → i + span_at b i ≤ r.from → awake (wakes (event_from x e)) (tree_of b i) l ≡ l
-    unfolding Deaf
-    deaf-before i p l h = deaf-at (span_at b i) i p l (omega arith) (λ k y z. not_so (hears (kind_at b k) (name_at b k) x e) (λ q. omega (arith, (hear k (omega (arith, span-inside b i p)) q).0)))
+    pub deaf-before : (i : ℕ) → Place b i → (l : List ℕ) → i + span_at b i ≤ r.from → woken b x e i l ≡ l
+    deaf-before i p l h = deaf-part i p (λ k y z q. omega (arith, (hear k (omega (arith, span-inside b i p)) q).0)) l
 
-    pub deaf-all : (i : ℕ) (p : Place b i) (l : List ℕ) → r.to ≤ r.from → awake (wakes (event_from x e)) (tree_of b i) l ≡ l
-    unfolding Deaf
-    deaf-all i p l h = deaf-at (span_at b i) i p l (omega arith) (λ k y z. not_so (hears (kind_at b k) (name_at b k) x e) (λ q. let w = hear k (omega (arith, span-inside b i p)) q in omega (arith, w.0, w.1)))
+    pub deaf-all : (i : ℕ) → Place b i → (l : List ℕ) → r.to ≤ r.from → woken b x e i l ≡ l
+    deaf-all i p l h = deaf-part i p (λ k y z q. let w = hear k (omega (arith, span-inside b i p)) q in omega (arith, w.0, w.1)) l
 
     -- nobody listens beside the part
-    pub part-hears : (i : ℕ) → Place b i → {k : ℕ} → PartWith b i r k → (l : List ℕ) → awake (wakes (event_from x e)) (tree_of b k) l ≡ awake (wakes (event_from x e)) (tree_of b i) l
+    pub part-hears : (i : ℕ) → Place b i → {k : ℕ} → PartWith b i r k → (l : List ℕ) → woken b x e k l ≡ woken b x e i l
     part-hears i p itself l = refl
     part-hears i p (the-body c) l = sym (awake-record b i p l x e ∙ rw (ne_eqb (children_of (kind_at b i)) 2 (λ q. loop-alone (kind_at b i) c q), eq-eqb (kind_at b i) 14 c))
-    part-hears i p (the-left c h) l = sym (awake-record b i p l x e ∙ rw (eq-eqb (children_of (kind_at b i)) 2 c) (deaf-behind (second_at b i) (next_place b i p (omega arith)) (awake (wakes (event_from x e)) (tree_of b (i + 1)) l) h))
-    part-hears i p (the-right c h) l = sym (awake-record b i p l x e ∙ rw (eq-eqb (children_of (kind_at b i)) 2 c) (ap (awake (wakes (event_from x e)) (tree_of b (second_at b i))) (deaf-before (i + 1) (down-place b i p (omega arith)) l (omega arith))))
+    part-hears i p (the-left c h) l = sym (awake-record b i p l x e ∙ rw (eq-eqb (children_of (kind_at b i)) 2 c) (deaf-behind (second_at b i) (next_place b i p (omega arith)) (woken b x e (i + 1) l) h))
+    part-hears i p (the-right c h) l = sym (awake-record b i p l x e ∙ rw (eq-eqb (children_of (kind_at b i)) 2 c) (ap (woken b x e (second_at b i)) (deaf-before (i + 1) (down-place b i p (omega arith)) l (omega arith))))
 
 -- ---- the part
 
@@ -135,29 +115,12 @@ set-kept l i k n true = go (eqb (get_or l i 0) 1)
 set-kept l i k n false = refl
 
 module _ (b : List ℕ) (x : Source) (e k : ℕ) (deaf : hears (kind_at b k) (name_at b k) x e ≡ false) where
-  kept-one : (i : ℕ) (l : List ℕ) → get_or (wake_at (hears (kind_at b i) (name_at b i) x e) i l) k 0 ≡ get_or l k 0
+  kept-one : (i : ℕ) (l : List ℕ) → get_or (woken_at b x e i l) k 0 ≡ get_or l k 0
   kept-one i l = go (eqb k i) refl
     where
-      go : (y : Bool) → eqb k i ≡ y → get_or (wake_at (hears (kind_at b i) (name_at b i) x e) i l) k 0 ≡ get_or l k 0
+      go : (y : Bool) → eqb k i ≡ y → get_or (woken_at b x e i l) k 0 ≡ get_or l k 0
       go true q = let o : k ≡ i = eqb-true k i q in let d = rw o at deaf in rw d
       go false q = set-kept l i k (eqb-false k i q) (hears (kind_at b i) (name_at b i) x e)
 
-  kept-node : (i : ℕ) (p : Place b i) (l : List ℕ) → (1 ≤ children_of (kind_at b i) → (l : List ℕ) → get_or (awake (wakes (event_from x e)) (tree_of b (i + 1)) l) k 0 ≡ get_or l k 0) →
-      (2 ≤ children_of (kind_at b i) → (l : List ℕ) → get_or (awake (wakes (event_from x e)) (tree_of b (second_at b i)) l) k 0 ≡ get_or l k 0) → get_or (awake (wakes (event_from x e)) (tree_of b i) l) k 0 ≡ get_or l k 0
-  kept-node i p l down next = ap (λ (a : List ℕ). get_or a k 0) (awake-record b i p l x e) ∙ go (eqb (children_of (kind_at b i)) 2) refl (eqb (kind_at b i) 14) refl
-    where
-      go : (y : Bool) → eqb (children_of (kind_at b i)) 2 ≡ y → (z : Bool) → eqb (kind_at b i) 14 ≡ z →
-          get_or (if y then awake (wakes (event_from x e)) (tree_of b (second_at b i)) (awake (wakes (event_from x e)) (tree_of b (i + 1)) l) else if z then awake (wakes (event_from x e)) (tree_of b (i + 1)) l else wake_at (hears (kind_at b i) (name_at b i) x e) i l) k 0 ≡ get_or l k 0
-      go true y z w = let c = eqb-true (children_of (kind_at b i)) 2 y in next (omega arith) (awake (wakes (event_from x e)) (tree_of b (i + 1)) l) ∙ down (omega arith) l
-      go false y true w = down (loop-down (kind_at b i) (eqb-true (kind_at b i) 14 w)) l
-      go false y false w = kept-one i l
-
-  kept_from : (f i : ℕ) (p : Place b i) → span_at b i ≤ f → (l : List ℕ) → get_or (awake (wakes (event_from x e)) (tree_of b i) l) k 0 ≡ get_or l k 0
-  kept_from zero i p h l = absurd (omega (arith, span_pos b i p))
-  kept_from (suc f) i p h l =
-      kept-node i p l
-      (λ c. kept_from f (i + 1) (down-place b i p c) (omega (arith, down-falls b i p c)))
-      (λ c. kept_from f (second_at b i) (next_place b i p c) (omega (arith, next-falls b i p c)))
-
-  pub awake-kept : (i : ℕ) (p : Place b i) (l : List ℕ) → get_or (awake (wakes (event_from x e)) (tree_of b i) l) k 0 ≡ get_or l k 0
-  awake-kept i p l = kept_from (span_at b i) i p (omega arith) l
+  pub awake-kept : (i : ℕ) → Place b i → (l : List ℕ) → get_or (woken b x e i l) k 0 ≡ get_or l k 0
+  awake-kept i p = woken-along b x e (λ l m. get_or m k 0 ≡ get_or l k 0) (λ l m n u v. v ∙ u) i p (λ j y z. kept-one j)
