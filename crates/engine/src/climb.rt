@@ -18,10 +18,10 @@ use walks::exec::after_right;
 use walks::{How, Running};
 
 // The right of an and or or has run, beside a left that rests.
-fn beside_left(fork: Fork<'_>, left: How, right: How, run: &mut Running, out: &mut [u8]) -> How
-    ensures { left result run.new out.new ≡ beside array_ops (par_of fork.entry.par) (tree_of fork.entry.at.table.now (fork.entry.at.place + 1)) (how_of left) (left right run.old out.old) }
+fn beside_left(fork: Fork<'_>, beside: How, right: How, run: &mut Running, out: &mut [u8]) -> How
+    ensures { left result run.new out.new ≡ beside array_ops (par_of fork.entry.par) (tree_of fork.entry.at.table.now (fork.entry.at.place + 1)) (how_of beside) (left right run.old out.old) }
 {
-    if left == How::Idle {
+    if beside == How::Idle {
         return right;
     }
     after_right(fork.left(), fork.par, right, run, out)

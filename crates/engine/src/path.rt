@@ -6,6 +6,7 @@ ghost use Rattle.engine.specs.Parts.{Along};
 use rules::Limits;
 use table::Construct;
 
+#[derive(Drop)]
 pub struct Path<'a> {
     table: &'a [u8],
     places: [u16; Limits::RECORDS],
