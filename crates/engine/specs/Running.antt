@@ -5,8 +5,8 @@ use Rattle.theory.specs.Round.{Heard, heard, Round, round}
 use Rattle.memory.specs.Arrays.{Arrays}
 use Rattle.memory.specs.Acts.{arrays_of}
 use Rattle.memory.specs.declared.effects.Memory.{Memory}
-use Rattle.walks.specs.declared.How.{How}
-use Rattle.walks.specs.declared.Running.{Running}
+use Rattle.walks.specs.declared.running.How.{How}
+use Rattle.walks.specs.declared.running.Running.{Running}
 use Rattle.walks.specs.Walks.{array_ops, how_of, left}
 use Rattle.engine.specs.declared.Rounded.{Rounded}
 

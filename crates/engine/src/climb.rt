@@ -18,10 +18,10 @@ use walks::exec::after_right;
 use walks::{How, Running};
 
 // The right of an and or or has run, beside a left that rests.
-fn beside_left(fork: Fork<'_>, beside: How, right: How, run: &mut Running, out: &mut [u8]) -> How
-    ensures { left result run.new out.new ≡ beside array_ops (par_of fork.entry.par) (tree_of fork.entry.at.table.now (fork.entry.at.place + 1)) (how_of beside) (left right run.old out.old) }
+fn beside_left(fork: Fork<'_>, rests: How, right: How, run: &mut Running, out: &mut [u8]) -> How
+    ensures { left result run.new out.new ≡ beside array_ops (par_of fork.entry.par) (tree_of fork.entry.at.table.now (fork.entry.at.place + 1)) (how_of rests) (left right run.old out.old) }
 {
-    if beside == How::Idle {
+    if rests == How::Idle {
         return right;
     }
     after_right(fork.left(), fork.par, right, run, out)
@@ -34,8 +34,8 @@ fn past_left(fork: Fork<'_>, right: How, n: u32, run: &mut Running, out: &mut [u
     match right {
         How::Idle => resume(fork.left(), n, run, out),
         How::Ended | How::Broke => {
-            let beside = resume(fork.left(), n, run, out);
-            beside_left(fork, beside, right, run, out)
+            let rests = resume(fork.left(), n, run, out);
+            beside_left(fork, rests, right, run, out)
         }
         How::Waiting | How::Ringing(_) => right,
     }

@@ -1,8 +1,8 @@
 // An and or or.
 ghost use Rattle.std.specs.Prelude.{◌≡◌, ◌+◌};
-ghost use Rattle.rules.specs.Table.{second_at};
-ghost use Rattle.table.specs.Named.{Stands};
-ghost use Rattle.table.specs.declared.kind.Kind.TheVariants as kind;
+ghost use Rattle.rules.specs.Table.{kind_at, second_at};
+ghost use Rattle.rules.specs.Tree.{by_par};
+ghost use Rattle.table.specs.Named.{par_of};
 
 use table::{Construct, Par};
 
@@ -10,7 +10,7 @@ use table::{Construct, Par};
 pub struct Fork<'a> {
     pub at: Construct<'a>,
     pub par: Par,
-    pub ghost forks: { Stands at.table.now at.place (kind.Par par) },
+    pub ghost forks: { kind_at at.table.now at.place ≡ by_par (par_of par) 17 },
 }
 
 impl<'a> Fork<'a> {

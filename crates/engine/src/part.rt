@@ -1,5 +1,5 @@
 // The way down from the root to the smallest construct that holds all that runs.
-ghost use Rattle.std.specs.Prelude.{◌≡◌, ◌-◌, ◌≤◌, ◌<◌, get_or, length};
+ghost use Rattle.std.specs.Prelude.{◌≡◌, ◌-◌, ◌≤◌, ◌<◌, MatchOption};
 ghost use Rattle.rules.specs.Table.{records_of};
 ghost use Rattle.engine.specs.Parts.{idling, right_free, Step, Way};
 
@@ -44,6 +44,7 @@ fn part_of<'a>(
     states: &[u32; Limits::RECORDS],
 ) -> Option<Construct<'a>>
     requires { at.place < reach.from }
+    ensures { MatchOption result (Unit {0}) (λ part. (part.table.now ≡ at.entry.table.now) × Step at.entry.table.now states.now reach at.entry.place part.place) }
 {
     let part = part_with(at, reach);
     if part.place == at.place {
@@ -59,7 +60,7 @@ fn part_of<'a>(
 pub fn down<'a>(program: Construct<'a>, reach: Reach, states: &[u32; Limits::RECORDS]) -> Path<'a>
     requires root { program.place ≡ 0 }
     ensures table { result.table.now ≡ program.entry.table.now }
-    ensures way { Way program.entry.table.now states.now reach.from reach.to result.places result.steps }
+    ensures way { Way program.entry.table.now states.now reach result.places result.steps }
 {
     let mut path = Path::from(program);
     let mut at = program;

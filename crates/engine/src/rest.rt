@@ -33,7 +33,7 @@ pub fn blocked(at: Construct<'_>, n: u32, states: &[u32; Limits::RECORDS]) -> bo
 
 // From the first place that runs at this level on, and before the place behind the last.
 pub fn running(program: Construct<'_>, n: u32, states: &[u32; Limits::RECORDS]) -> Reach
-    ensures { Runs program.entry.table.now n states.now result.from result.to }
+    ensures { Runs program.entry.table.now n states.now result }
 {
     let records = program.table.len() / Limits::RECORD_BYTES;
     let used = &states[..records];

@@ -40,7 +40,7 @@ fn run_part(
 ) -> Option<usize>
     requires root { program.place ≡ 0 }
     requires level_bound { level ≤ most_rounds + 1 }
-    requires runs { Runs program.table.now (turn_of level) run.old.states reach.from reach.to }
+    requires runs { Runs program.table.now (turn_of level) run.old.states reach }
     ensures left { heard_in result run.new out.new ≡ onward array_ops (tree program.entry) level run.old.states (arrays_of run.old.memory out.old) }
     ensures named { Named result }
 {
