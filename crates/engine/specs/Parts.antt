@@ -1,5 +1,6 @@
 -- The part of a program that runs, and the way down to it: the places of the constructs that hold it, from the root on.
-use Rattle.std.specs.Prelude.{◌≡◌, Bool, true, ◌&&◌, List, ℕ, zero, suc, ◌+◌, ◌-◌, ◌≤◌, ◌<◌, eqb, ltb, get_or, if◌then◌else◌}
+use Rattle.std.specs.Prelude.{◌≡◌, Bool, true, List, ℕ, ◌+◌, ◌≤◌, ◌<◌, eqb, ltb, get_or, slice_range, if◌then◌else◌}
+use Rattle.std.specs.List.{list_all}
 use Rattle.rules.specs.Table.{kind_at, records_of}
 use Rattle.theory.specs.State.{Walk, resume, still_at}
 use Rattle.theory.specs.Part.{Only}
@@ -8,19 +9,13 @@ use Rattle.memory.specs.Arrays.{Arrays}
 use Rattle.walks.specs.Walks.{array_ops}
 use Rattle.walks.specs.declared.part.Reach.{Reach}
 
--- so many states from place i on are idle
-unfoldable pub idling : List ℕ → ℕ → ℕ → Bool
-idling l i zero = true
-idling l i (suc s) = eqb (get_or l i 0) 0 && idling l (i + 1) s
+-- all states from one place on, and before another, are idle
+abbrev pub idling : List ℕ → ℕ → ℕ → Bool
+idling l a b = list_all (λ s. eqb s 0) (slice_range l a b)
 
 -- the right of the construct at place i, at place j, may run alone: no left that lives comes before it
 unfoldable pub right_free : List ℕ → List ℕ → ℕ → ℕ → Bool
-unfolding idling
-right_free b l i j = if ltb (kind_at b i) 17 then idling l (i + 1) (j - (i + 1)) else eqb (get_or l i 0) 0
-
--- from place a on, and before b, all states rest at this level
-pub record Rest (n : ℕ) (l : List ℕ) (a b : ℕ) : Type 0 where
-  pub still-at : (k : ℕ) → a ≤ k → k < b → still_at n (get_or l k 0) ≡ true
+right_free b l i j = if ltb (kind_at b i) 17 then idling l (i + 1) j else eqb (get_or l i 0) 0
 
 -- all of the program is idle or waiting
 pub record AllWait (b l : List ℕ) : Type 0 where

@@ -1,6 +1,6 @@
 -- What the contracts of resume and of the round are said with.
 use Rattle.std.specs.Prelude.{◌≡◌, ◌<◌, List, ℕ, Option, None, Some}
-use Rattle.theory.specs.State.{broke, Walk, walk, Swept, tick_if, right_alone, resume_emit}
+use Rattle.theory.specs.State.{Walk, walk, right_alone, resume_emit}
 use Rattle.theory.specs.Round.{Heard, heard, Round, round}
 use Rattle.memory.specs.Arrays.{Arrays}
 use Rattle.memory.specs.Acts.{arrays_of}
@@ -9,10 +9,6 @@ use Rattle.walks.specs.declared.running.How.{How}
 use Rattle.walks.specs.declared.running.Running.{Running}
 use Rattle.walks.specs.Walks.{array_ops, how_of, left}
 use Rattle.engine.specs.declared.Rounded.{Rounded}
-
--- an and or or whose left has broken, and whose right is cleared
-abbrev pub left_broke : Swept Arrays → Walk Arrays
-left_broke s = walk broke s.states (tick_if array_ops s.lived (tick_if array_ops s.lived s.memory))
 
 -- ---- what a call promises that is lent some of the arrays only: with any others
 

@@ -1,8 +1,7 @@
 // After a part has run, the constructs above it go on, up to the root or to one that waits or has an event pending.
 ghost use Rattle.std.specs.Prelude.{◌≡◌, ◌+◌};
-ghost use Rattle.rules.specs.Table.{second_at};
 ghost use Rattle.theory.specs.State.{resume};
-ghost use Rattle.theory.specs.Part.{beside, past_left, par_goes_on, goes_on};
+ghost use Rattle.theory.specs.Part.{beside, past_left, goes_on};
 ghost use Rattle.table.specs.Constructs.{tree};
 ghost use Rattle.table.specs.Named.{par_of};
 ghost use Rattle.table.specs.Places.{tree_of};
@@ -10,9 +9,8 @@ ghost use Rattle.walks.specs.Walks.{array_ops, how_of, left};
 ghost use Rattle.engine.specs.Parts.{Climbs};
 
 use crate::fork::Fork;
-use crate::held::resume_held;
 use crate::path::Path;
-use crate::resume::{if_goes_on, loop_goes_on, resume, resume_both, seq_goes_on};
+use crate::resume::{fork_goes_on, if_goes_on, loop_goes_on, resume, seq_goes_on};
 use table::{Construct, Kind};
 use walks::exec::after_right;
 use walks::{How, Running};
@@ -41,23 +39,25 @@ fn past_left(fork: Fork<'_>, right: How, n: u32, run: &mut Running, out: &mut [u
     }
 }
 
-// After the left of an and or or.
-fn fork_goes_on(fork: Fork<'_>, how: How, n: u32, run: &mut Running, out: &mut [u8]) -> How
-    ensures { left result run.new out.new ≡ par_goes_on array_ops n fork.entry.at.place (par_of fork.entry.par) (tree_of fork.entry.at.table.now (fork.entry.at.place + 1)) (tree_of fork.entry.at.table.now (second_at fork.entry.at.table.now fork.entry.at.place)) (left how run.old out.old) }
-{
-    if run.states[fork.at.place] == 0 {
-        return resume_both(fork, how, n, run, out);
-    }
-    resume_held(fork, how, n, run, out)
-}
-
 // After the part at place k of any construct.
 fn goes_on(at: Construct<'_>, k: usize, how: How, n: u32, run: &mut Running, out: &mut [u8]) -> How
     ensures { left result run.new out.new ≡ goes_on array_ops n k (left how run.old out.old) (tree at.entry) }
 {
     match at.kind() {
-        Kind::If if k < at.second().place => if_goes_on(at.second(), how, n, run, out),
-        Kind::Sequence if k < at.second().place => seq_goes_on(at.second(), how, n, run, out),
+        Kind::If => {
+            let right = at.second();
+            if k < right.place {
+                return if_goes_on(right, how, n, run, out);
+            }
+            how
+        }
+        Kind::Sequence => {
+            let right = at.second();
+            if k < right.place {
+                return seq_goes_on(right, how, n, run, out);
+            }
+            how
+        }
         Kind::Loop => loop_goes_on(at.first(), how, n, run, out),
         Kind::Par(par) => {
             let fork = Fork { at, par };

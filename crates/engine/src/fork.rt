@@ -1,6 +1,6 @@
 // An and or or.
-ghost use Rattle.std.specs.Prelude.{◌≡◌, ◌+◌};
-ghost use Rattle.rules.specs.Table.{kind_at, second_at};
+ghost use Rattle.std.specs.Prelude.{◌≡◌, ◌+◌, ◌<◌};
+ghost use Rattle.rules.specs.Table.{kind_at, span_at, second_at};
 ghost use Rattle.rules.specs.Tree.{by_par};
 ghost use Rattle.table.specs.Named.{par_of};
 
@@ -17,6 +17,7 @@ impl<'a> Fork<'a> {
     pub fn left(self) -> Construct<'a>
         ensures table { result.table.now ≡ self.entry.at.table.now }
         ensures place { result.place ≡ self.entry.at.place + 1 }
+        ensures smaller { span_at result.table.now result.place < span_at self.entry.at.table.now self.entry.at.place }
     {
         self.at.first()
     }
@@ -24,6 +25,7 @@ impl<'a> Fork<'a> {
     pub fn right(self) -> Construct<'a>
         ensures table { result.table.now ≡ self.entry.at.table.now }
         ensures place { result.place ≡ second_at self.entry.at.table.now self.entry.at.place }
+        ensures smaller { span_at result.table.now result.place < span_at self.entry.at.table.now self.entry.at.place }
     {
         self.at.second()
     }

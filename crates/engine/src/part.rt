@@ -1,7 +1,8 @@
 // The way down from the root to the smallest construct that holds all that runs.
-ghost use Rattle.std.specs.Prelude.{◌≡◌, ◌-◌, ◌≤◌, ◌<◌, MatchOption};
-ghost use Rattle.rules.specs.Table.{records_of};
-ghost use Rattle.engine.specs.Parts.{idling, right_free, Step, Way};
+ghost use Rattle.std.specs.Prelude.{◌≡◌, ◌≤◌, ◌<◌, IfSome};
+ghost use Rattle.rules.specs.Table.{kind_at};
+ghost use Rattle.table.specs.Kinds.{children_of};
+ghost use Rattle.engine.specs.Parts.{right_free, Step, Way};
 
 use crate::path::Path;
 use rules::Limits;
@@ -9,31 +10,18 @@ use table::{Construct, Kind};
 use walks::Reach;
 use walks::part::part_with;
 
-// Are all states from one place on, and before another, idle?
-pub fn all_idle(reach: Reach, states: &[u32; Limits::RECORDS]) -> bool
-    requires order { reach.from ≤ reach.to }
-    requires inside { reach.to ≤ 256 }
-    ensures { result ≡ idling states.now reach.from (reach.to - reach.from) }
-{
-    states[reach.from..reach.to].iter().all(|state| *state == 0)
-}
-
-// May the part at place j, the right of a construct, run alone?
+// May the right of the construct run alone?
 #[tactic(auto, unfolding(crate::specs::Parts::right_free))]
-fn right_free(at: Construct<'_>, j: usize, states: &[u32; Limits::RECORDS]) -> bool
-    requires behind { at.place < j }
-    requires inside { j ≤ records_of at.table.now }
-    ensures { result ≡ right_free at.entry.table.now states.now at.entry.place j }
+fn right_free(at: Construct<'_>, right: Construct<'_>, states: &[u32; Limits::RECORDS]) -> bool
+    requires right { at.place < right.place }
+    requires sides { 2 ≤ children_of (kind_at at.table.now at.place) }
+    ensures { result ≡ right_free at.entry.table.now states.now at.entry.place right.entry.place }
 {
     match at.kind() {
         Kind::Par(_) => states[at.place] == 0,
-        _ => all_idle(
-            Reach {
-                from: at.place + 1,
-                to: j,
-            },
-            states,
-        ),
+        _ => states[at.place + 1..right.place]
+            .iter()
+            .all(|state| *state == 0),
     }
 }
 
@@ -44,13 +32,14 @@ fn part_of<'a>(
     states: &[u32; Limits::RECORDS],
 ) -> Option<Construct<'a>>
     requires { at.place < reach.from }
-    ensures { MatchOption result (Unit {0}) (λ part. (part.table.now ≡ at.entry.table.now) × Step at.entry.table.now states.now reach at.entry.place part.place) }
+    ensures table { IfSome result (λ part. part.table.now ≡ at.entry.table.now) }
+    ensures step { IfSome result (λ part. Step at.entry.table.now states.now reach at.entry.place part.place) }
 {
     let part = part_with(at, reach);
     if part.place == at.place {
         return None;
     }
-    if part.place == at.place + 1 || right_free(at, part.place, states) {
+    if part.place == at.place + 1 || right_free(at, part, states) {
         return Some(part);
     }
     None

@@ -1,5 +1,5 @@
 // The way down from the root to a part, as the places of the constructs that hold it.
-ghost use Rattle.std.specs.Prelude.{◌≡◌, ◌+◌, ◌≤◌, ◌<◌, get_or, set};
+ghost use Rattle.std.specs.Prelude.{◌≡◌, ◌+◌, ◌≤◌, ◌<◌, ℕ, get_or};
 ghost use Rattle.table.specs.Places.{Spot};
 ghost use Rattle.engine.specs.Parts.{Along};
 
@@ -36,6 +36,10 @@ impl<'a> Path<'a> {
     pub fn push(&mut self, part: Construct<'a>)
         requires table { part.table.now ≡ self.old.table.now }
         requires below { get_or self.old.places self.old.steps 0 < part.place }
+        ensures table { self.new.table.now ≡ self.old.table.now }
+        ensures steps { self.new.steps ≡ self.old.steps + 1 }
+        ensures end { get_or self.new.places self.new.steps 0 ≡ part.entry.place }
+        ensures kept { (k : ℕ) → k ≤ self.old.steps → get_or self.new.places k 0 ≡ get_or self.old.places k 0 }
     {
         self.steps += 1;
         self.places[self.steps] = part.place as u16;

@@ -16,31 +16,36 @@ fn at_rest(state: u32, n: u32) -> bool
 }
 
 // Blocked, or nothing lives: each state at the construct and below rests.
+#[tactic(auto, unfolding(theory::specs::State::still))]
 pub fn blocked(at: Construct<'_>, n: u32, states: &[u32; Limits::RECORDS]) -> bool
     ensures { result ≡ still n (tree at.entry) states.now }
 {
-    if !at_rest(states[at.place], n) {
-        return false;
-    }
+    let rests = at_rest(states[at.place], n);
     match at.kind() {
         Kind::If | Kind::Sequence | Kind::Par(_) => {
-            blocked(at.first(), n, states) && blocked(at.second(), n, states)
+            rests && blocked(at.first(), n, states) && blocked(at.second(), n, states)
         }
-        Kind::Loop => blocked(at.first(), n, states),
-        _ => true,
+        Kind::Loop => rests && blocked(at.first(), n, states),
+        _ => rests,
     }
 }
 
-// From the first place that runs at this level on, and before the place behind the last.
+// All that runs at this level stands within the reach.
 pub fn running(program: Construct<'_>, n: u32, states: &[u32; Limits::RECORDS]) -> Reach
     ensures { Runs program.entry.table.now n states.now result }
 {
     let records = program.table.len() / Limits::RECORD_BYTES;
-    let used = &states[..records];
-    let first = used.iter().position(|state| !at_rest(*state, n));
-    let last = used.iter().rposition(|state| !at_rest(*state, n));
-    Reach {
-        from: first.unwrap_or(records),
-        to: last.map_or(0, |last| last + 1),
+    let mut reach = Reach {
+        from: records,
+        to: 0,
+    };
+    for (place, state) in states[..records].iter().enumerate() {
+        if !at_rest(*state, n) {
+            reach = Reach {
+                from: reach.from.min(place),
+                to: place + 1,
+            };
+        }
     }
+    reach
 }

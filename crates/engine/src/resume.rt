@@ -1,13 +1,14 @@
 // A tree that has begun runs on; one that is idle answers so, and nothing changes.
 ghost use Rattle.std.specs.Prelude.{◌≡◌, ◌+◌};
 ghost use Rattle.rules.specs.Table.{second_at};
-ghost use Rattle.theory.specs.State.{sweep, exec, resume, resume_if, resume_seq, resume_loop, resume_both};
+ghost use Rattle.theory.specs.State.{exec, resume, resume_if, resume_seq, resume_loop};
+ghost use Rattle.theory.specs.Part.{par_goes_on};
 ghost use Rattle.table.specs.Constructs.{tree};
 ghost use Rattle.table.specs.Named.{par_of};
 ghost use Rattle.table.specs.Places.{tree_of};
 ghost use Rattle.memory.specs.Acts.{arrays_of};
 ghost use Rattle.walks.specs.Walks.{array_ops, how_of, left};
-ghost use Rattle.engine.specs.Running.{left_broke, RightAlone};
+ghost use Rattle.engine.specs.Running.{RightAlone};
 
 use crate::fork::Fork;
 use crate::held::resume_held;
@@ -31,19 +32,8 @@ fn right_alone(how: How, memory: &mut Memory) -> How
     }
 }
 
-// After a left that has broken: the right is cleared.
-fn left_broke(right: Construct<'_>, run: &mut Running, out: &mut [u8]) -> How
-    ensures { left result run.new out.new ≡ left_broke (sweep array_ops (tree right.entry) run.old.states (arrays_of run.old.memory out.old)) }
-{
-    if clear(right, run, out) {
-        run.memory.tick();
-        run.memory.tick();
-        return How::Broke;
-    }
-    How::Broke
-}
-
 #[cycle(resume)]
+#[tactic(auto, unfolding(theory::specs::State::resume))]
 pub fn resume(at: Construct<'_>, n: u32, run: &mut Running, out: &mut [u8]) -> How
     ensures { left result run.new out.new ≡ resume array_ops n (tree at.entry) run.old.states (arrays_of run.old.memory out.old) }
 {
@@ -65,7 +55,11 @@ pub fn resume(at: Construct<'_>, n: u32, run: &mut Running, out: &mut [u8]) -> H
             let how = resume(at.first(), n, run, out);
             loop_goes_on(at.first(), how, n, run, out)
         }
-        Kind::Par(par) => resume_par(Fork { at, par }, n, run, out),
+        Kind::Par(par) => {
+            let fork = Fork { at, par };
+            let how = resume(fork.left(), n, run, out);
+            fork_goes_on(fork, how, n, run, out)
+        }
     }
 }
 
@@ -118,38 +112,36 @@ pub fn loop_goes_on(body: Construct<'_>, how: How, n: u32, run: &mut Running, ou
     }
 }
 
+// After the left of an and or or.
 #[cycle(resume)]
-fn resume_par(fork: Fork<'_>, n: u32, run: &mut Running, out: &mut [u8]) -> How
-    ensures { left result run.new out.new ≡ resume array_ops n (tree fork.entry.at) run.old.states (arrays_of run.old.memory out.old) }
+pub fn fork_goes_on(fork: Fork<'_>, how: How, n: u32, run: &mut Running, out: &mut [u8]) -> How
+    ensures { left result run.new out.new ≡ par_goes_on array_ops n fork.entry.at.place (par_of fork.entry.par) (tree_of fork.entry.at.table.now (fork.entry.at.place + 1)) (tree_of fork.entry.at.table.now (second_at fork.entry.at.table.now fork.entry.at.place)) (left how run.old out.old) }
 {
-    let held = run.states[fork.at.place] != 0;
-    let how = resume(fork.left(), n, run, out);
-    if held {
+    if run.states[fork.at.place] != 0 {
         return resume_held(fork, how, n, run, out);
     }
-    resume_both(fork, how, n, run, out)
-}
-
-// After the left of an and or or whose right has started.
-#[cycle(resume)]
-pub fn resume_both(fork: Fork<'_>, how: How, n: u32, run: &mut Running, out: &mut [u8]) -> How
-    ensures { left result run.new out.new ≡ resume_both array_ops (par_of fork.entry.par) (tree_of fork.entry.at.table.now (fork.entry.at.place + 1)) (tree_of fork.entry.at.table.now (second_at fork.entry.at.table.now fork.entry.at.place)) (how_of how) (left how run.old out.old) (resume array_ops n (tree_of fork.entry.at.table.now (second_at fork.entry.at.table.now fork.entry.at.place))) }
-{
     let second = fork.right();
     match how {
         How::Idle => resume(second, n, run, out),
-        How::Ended => {
-            if fork.par == Par::And {
+        How::Ended => match fork.par {
+            Par::And => {
                 let right = resume(second, n, run, out);
-                return right_alone(right, &mut run.memory);
+                right_alone(right, &mut run.memory)
             }
+            Par::Or => {
+                if clear(second, run, out) {
+                    run.memory.tick();
+                }
+                How::Ended
+            }
+        },
+        How::Broke => {
             if clear(second, run, out) {
                 run.memory.tick();
-                return How::Ended;
+                run.memory.tick();
             }
-            How::Ended
+            How::Broke
         }
-        How::Broke => left_broke(second, run, out),
         How::Waiting => {
             let right = resume(second, n, run, out);
             after_right(fork.left(), fork.par, right, run, out)

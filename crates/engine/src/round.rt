@@ -110,25 +110,22 @@ fn rounds(
     let mut highest: u32 = 1;
     for _ in 0..most {
         run.memory.tick();
-        match event {
-            None => {
-                if level == 1 {
-                    return Rounded {
-                        grounded: true,
-                        emitted,
-                        highest,
-                    };
-                }
-                level -= 1;
-                event = onward(program, level, run, out);
+        let Some(rung) = event else {
+            if level == 1 {
+                return Rounded {
+                    grounded: true,
+                    emitted,
+                    highest,
+                };
             }
-            Some(rung) => {
-                level += 1;
-                emitted += 1;
-                highest = highest.max(level);
-                event = pushed(program, rung, level, listeners, run, out);
-            }
-        }
+            level -= 1;
+            event = onward(program, level, run, out);
+            continue;
+        };
+        level += 1;
+        emitted += 1;
+        highest = highest.max(level);
+        event = pushed(program, rung, level, listeners, run, out);
     }
     Rounded {
         grounded: false,

@@ -1,0 +1,145 @@
+-- The constructs above a part that has run: what each makes of it, and the whole program at the end.
+-- Assumes nothing.
+use Rattle.std.specs.Prelude.{if◌then◌else◌}
+use mathlib.Core.Path.{◌≡◌, refl, sym, ap, ◌∙◌}
+use mathlib.Core.Bool.{Bool, true}
+use mathlib.Core.List.{List}
+use mathlib.Core.Logic.{◌⊎◌, inl, inr}
+use Prim.Native.Nat.{ℕ, zero, suc, ◌+◌, ◌≤◌}
+use native.Mathlib.Omega.{arith}
+use lib.Dec.{eqb, ltb}
+use lib.ListN.{get_or}
+use Rattle.rules.specs.Tree.{Tree, Par, par}
+use Rattle.rules.specs.Table.{second_at}
+use Rattle.theory.specs.State.{How, Walk, walk, exec, resume_if, resume_seq, resume_loop, resume_both, resume_held, resume, still}
+use Rattle.theory.specs.Frame.{place_of, Laid, left-kept}
+use Rattle.theory.specs.Kept.{resume-kept}
+use Rattle.theory.specs.Round.{turn_of, event_of, heard, heard_of, onward}
+use Rattle.theory.specs.Part.{onward-runs, Stays, stays-waiting, stays-ringing, past_left, par_goes_on, goes_on, part-still, part-goes-on, part_stays}
+use Rattle.table.specs.Named.{children, par_of, Stands}
+use Rattle.table.specs.declared.kind.Par as code
+use Rattle.table.specs.declared.kind.Kind.{Kind}
+use Rattle.table.specs.declared.kind.Kind.TheVariants as kind
+use Rattle.table.specs.Places.{Spot, tree_of}
+use Rattle.table.proofs.Places.{next_place}
+use Rattle.table.proofs.Laid.{place_at, laid-at}
+use Rattle.memory.specs.Arrays.{Arrays}
+use Rattle.walks.specs.declared.running.How as walked
+use Rattle.walks.specs.declared.running.How.TheVariants.{Waiting, Ringing}
+use Rattle.walks.specs.Walks.{array_ops, how_of}
+use Rattle.engine.specs.Parts.{Along, Path, Climbs}
+
+-- ---- by the kind of the construct
+
+module _ (b : List ℕ) (i : ℕ) (p : Spot b i) where
+  -- where the right of a construct stands
+  second-place : {k : Kind} → Stands b i k → 2 ≤ children k → place_of (tree_of b (second_at b i)) ≡ second_at b i
+  second-place s c = place_at b (second_at b i) (next_place b i p.place (omega (arith, s.children)))
+
+  module _ (n k : ℕ) (r : Walk Arrays) where
+    pub goes-on-if : Stands b i kind.If → goes_on array_ops n k r (tree_of b i) ≡ (if ltb k (second_at b i) then resume_if array_ops r.how r (resume array_ops n (tree_of b (second_at b i))) else r)
+    unfolding goes_on
+    goes-on-if s = rw (s.tree, second-place s (omega arith))
+
+    pub goes-on-seq : Stands b i kind.Sequence → goes_on array_ops n k r (tree_of b i) ≡ (if ltb k (second_at b i) then resume_seq array_ops r.how r (resume array_ops n (tree_of b (second_at b i))) (exec array_ops n (tree_of b (second_at b i))) else r)
+    unfolding goes_on
+    goes-on-seq s = rw (s.tree, second-place s (omega arith))
+
+    pub goes-on-loop : Stands b i kind.Loop → goes_on array_ops n k r (tree_of b i) ≡ resume_loop array_ops r.how r (exec array_ops n (tree_of b (i + 1)))
+    unfolding goes_on
+    goes-on-loop s = rw s.tree
+
+    pub goes-on-par : {o : code.Par} → Stands b i (kind.Par o) → goes_on array_ops n k r (tree_of b i) ≡ (
+        if ltb k (second_at b i)
+        then par_goes_on array_ops n i (par_of o) (tree_of b (i + 1)) (tree_of b (second_at b i)) r
+        else past_left array_ops (par_of o) (tree_of b (i + 1)) r.how r (resume array_ops n (tree_of b (i + 1)))
+        )
+    unfolding goes_on
+    goes-on-par s = rw (s.tree, second-place s (omega arith))
+
+    pub goes-on-rest : (x : Kind) → Stands b i x → (x ≡ kind.If → ⊥) → (x ≡ kind.Sequence → ⊥) → (x ≡ kind.Loop → ⊥) → ((o : code.Par) → x ≡ kind.Par o → ⊥) → goes_on array_ops n k r (tree_of b i) ≡ r
+    unfolding goes_on
+    goes-on-rest kind.Nothing s x y z w = rw s.tree
+    goes-on-rest (kind.Act a) s x y z w = rw s.tree
+    goes-on-rest (kind.Await a) s x y z w = rw s.tree
+    goes-on-rest kind.Emit s x y z w = rw s.tree
+    goes-on-rest kind.Break s x y z w = rw s.tree
+    goes-on-rest kind.If s x y z w = absurd (x refl)
+    goes-on-rest kind.Sequence s x y z w = absurd (y refl)
+    goes-on-rest kind.Loop s x y z w = absurd (z refl)
+    goes-on-rest (kind.Every a) s x y z w = rw s.tree
+    goes-on-rest (kind.Par o) s x y z w = absurd (w o refl)
+    goes-on-rest kind.Fin s x y z w = rw s.tree
+
+fork-resumed : (n i : ℕ) (c : Par) (p q : Tree) (l : List ℕ) (m : Arrays) → Laid (par i c p q) → resume array_ops n (par i c p q) l m ≡ par_goes_on array_ops n i c p q (resume array_ops n p l m)
+unfolding resume Laid
+fork-resumed n i c p q l m z =
+    let r = resume array_ops n p l m in
+    ap (λ (x : ℕ). if eqb x 0 then resume_both array_ops c p q r.how r (resume array_ops n q) else resume_held array_ops n i c p r.how r (exec array_ops n q)) (sym (left-kept z.0 (resume-kept array_ops n p z.1 l m)))
+
+-- an and or or is its left resumed, and then goes on: its own state is kept by its left
+pub resume-fork : (b : List ℕ) (i : ℕ) → Spot b i → (n : ℕ) (l : List ℕ) (m : Arrays) → {o : code.Par} → Stands b i (kind.Par o) → resume array_ops n (tree_of b i) l m ≡ par_goes_on array_ops n i (par_of o) (tree_of b (i + 1)) (tree_of b (second_at b i)) (resume array_ops n (tree_of b (i + 1)) l m)
+resume-fork b i p n l m s = rw s.tree (fork-resumed n i _ _ _ l m (rw s.tree at (laid-at b i p.place)))
+
+-- ---- along the way
+
+-- a walk that waits or rings
+pub stays-from : (h : walked.How) → (h ≡ Waiting) ⊎ ((e : ℕ) × (h ≡ Ringing e)) → Stays (how_of h)
+stays-from h (inl e) = rw e stays-waiting
+stays-from h (inr e) = rw e.1 (stays-ringing e.0)
+
+module _ (b : List ℕ) (n : ℕ) (path : List ℕ) where
+  pub path_less : {l : List ℕ} {d : ℕ} (e : ℕ) → e ≤ d → Path b n l path d → Path b n l path e
+  path_less e h w = record { root = w.root; each = λ k g. w.each k (omega arith) }
+
+  pub along-less : {d : ℕ} (e : ℕ) → e ≤ d → Along b path d → Along b path e
+  along-less e h a k g = a k (omega arith)
+
+  -- where the part at the end of the way is blocked, so is the program
+  pub path-still : {l : List ℕ} (d : ℕ) → Path b n l path d → still n (tree_of b (get_or path d 0)) l ≡ true → still n (tree_of b 0) l ≡ true
+  path-still zero w e = rw w.root at e
+  path-still {l} (suc d) w e =
+      let q : d + 1 ≡ suc d = omega arith in
+      let v = rw (← q) at w in
+      path-still d (path_less d (omega arith) v) (part-still (v.each d (omega arith)) (rw (← q) at e))
+
+  -- where it waits or rings, so does the program
+  pub path-stays : {l : List ℕ} (m : Arrays) {h : How} {l' : List ℕ} {m' : Arrays} → Stays h → (d : ℕ) → Along b path d → Path b n l path d → resume array_ops n (tree_of b (get_or path d 0)) l m ≡ walk h l' m' → resume array_ops n (tree_of b 0) l m ≡ walk h l' m'
+  path-stays m s zero a w e = rw w.root at e
+  path-stays {l} m {h} {l'} {m'} s (suc d) a w e =
+      let q : d + 1 ≡ suc d = omega arith in
+      let v = rw (← q) at w in
+      path-stays m s d (along-less d (omega arith) (rw (← q) at a)) (path_less d (omega arith) v) (part_stays array_ops n l m l' m' s (v.each d (omega arith)) (laid-at b (get_or path d 0) (a d (omega arith)).place) (rw (← q) at e))
+
+  -- what the construct e steps down is left as, where the part at the end of the way is left as w
+  pub record Climbed (d e : ℕ) (w v : Walk Arrays) : Type 0 where
+    pub so-far : (l : List ℕ) (m : Arrays) → Path b n l path d → w ≡ resume array_ops n (tree_of b (get_or path d 0)) l m → v ≡ resume array_ops n (tree_of b (get_or path e 0)) l m
+
+  pub climb_none : (d : ℕ) (w : Walk Arrays) → Climbed d d w w
+  climb_none d w = record { so-far = λ l m p x. x }
+
+  -- one construct more
+  pub climb_step : {d e : ℕ} → e + 1 ≤ d → Along b path d → {w v u : Walk Arrays} → Climbed d (e + 1) w v → u ≡ goes_on array_ops n (get_or path (e + 1) 0) v (tree_of b (get_or path e 0)) → Climbed d e w u
+  climb_step {d} {e} h a {w} {v} {u} c x = record {
+    so-far = λ l m p y.
+        let z = c.so-far l m p y in
+        let k = part-goes-on array_ops n l m (p.each e (omega arith)) (laid-at b (get_or path e 0) (a e (omega arith)).place) in
+        x ∙ rw z (sym (k ∙ ap (λ (j : ℕ). goes_on array_ops n j (resume array_ops n (tree_of b (get_or path (e + 1) 0)) l m) (tree_of b (get_or path e 0))) (place_at b (get_or path (e + 1) 0) (a (e + 1) (omega arith)).place)));
+  }
+
+  -- at the root
+  pub climbed-all : {d : ℕ} {w v : Walk Arrays} → Climbed d 0 w v → Climbs b path d n w v
+  climbed-all c l m p x = rw p.root at (c.so-far l m p x)
+
+  -- one that waits or rings is left as it is by all above
+  pub climbed-stays : {d e : ℕ} → e ≤ d → Along b path d → {h : How} {l' : List ℕ} {m' : Arrays} {w : Walk Arrays} → Stays h → Climbed d e w (walk h l' m') → Climbs b path d n w (walk h l' m')
+  climbed-stays {d} {e} g a s c l m p x = sym (path-stays m s e (along-less e g a) (path_less e g p) (sym (c.so-far l m p x)))
+
+-- ---- the round
+
+pub onward-blocked : (t : Tree) (v : ℕ) (l : List ℕ) (m : Arrays) → still (turn_of v) t l ≡ true → onward array_ops t v l m ≡ heard 0 l m
+unfolding onward
+onward-blocked t v l m e = rw e
+
+pub onward-climbs : (b : List ℕ) (v : ℕ) → Spot b 0 → (l : List ℕ) (m : Arrays) {w : Walk Arrays} {e : ℕ} → w ≡ resume array_ops (turn_of v) (tree_of b 0) l m → e ≡ event_of w.how → heard e w.states w.memory ≡ onward array_ops (tree_of b 0) v l m
+onward-climbs b v s l m {w} x y = ap (λ (k : ℕ). heard k w.states w.memory) y ∙ ap (λ (r : Walk Arrays). heard_of r) x ∙ sym (onward-runs array_ops (turn_of v) (tree_of b 0) (laid-at b 0 s.place) v refl l m)
