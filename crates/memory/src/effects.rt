@@ -1,8 +1,6 @@
 // What a running program keeps beside its states: 64 variables, and how many steps it took and outputs it made.
-ghost use Rattle.std.specs.Prelude.{◌≡◌, ◌+◌, ◌≤◌, length};
-ghost use Rattle.std.proofs.lemmas.List.Edits.{sets};
+ghost use Rattle.std.specs.Prelude.{◌≡◌};
 ghost use Rattle.std.specs.Int.Signed.{mag};
-ghost use Rattle.rules.specs.Number.{bytes32};
 ghost use Rattle.memory.specs.Arrays.{acts, kind_acts, variable, set_variable, put_output, make_output};
 ghost use Rattle.memory.specs.Acts.{act_of, arrays_of, Ticks, Tests, Sets, counted};
 
@@ -64,6 +62,7 @@ impl Memory {
         self.vars.get(v).copied().unwrap_or(0)
     }
 
+    // What an if tests.
     #[tactic(auto, using(crate::proofs::Bits::zero_bits), unfolding(crate::specs::Acts::arrays_of, crate::specs::Arrays::arrays, crate::specs::Arrays::is_nonzero))]
     pub fn is_nonzero(&self, v: usize) -> bool
         ensures { Tests result self.now v }

@@ -7,7 +7,6 @@ ghost use Rattle.table.specs.Places.{Spot};
 
 use crate::kind::Kind;
 use crate::record;
-use rules::Limits;
 
 #[derive(Clone, Copy)]
 pub struct Construct<'a> {
@@ -17,6 +16,7 @@ pub struct Construct<'a> {
 }
 
 impl<'a> Construct<'a> {
+    // What its record is, and so which tree stands here.
     #[tactic(auto, using(crate::proofs::Spots::stands_named), unfolding(crate::specs::Kinds::children_of))]
     pub fn kind(self) -> Kind
         ensures { Stands self.entry.table.now self.entry.place result }
@@ -27,6 +27,7 @@ impl<'a> Construct<'a> {
         }
     }
 
+    // Of a variable, an event or an output.
     pub fn name(self) -> usize
         ensures name { result ≡ name_at self.entry.table.now self.entry.place }
         ensures byte { result < 256 }
@@ -40,6 +41,7 @@ impl<'a> Construct<'a> {
         record::number_at(self.table, self.place)
     }
 
+    // How many records it takes, its own and those of its children.
     pub fn span(self) -> usize
         ensures { result ≡ span_at self.entry.table.now self.entry.place }
     {

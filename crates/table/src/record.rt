@@ -18,6 +18,7 @@ fn byte_at(table: &[u8], i: usize, k: usize) -> u8
     table[Limits::RECORD_BYTES * i + k]
 }
 
+// The kind, or a number over 19.
 pub fn kind_at(table: &[u8], i: usize) -> Result<Kind, NoKind>
     requires { i < records_of table.now }
     ensures { ReadsKind (kind_at table.now i) result }
