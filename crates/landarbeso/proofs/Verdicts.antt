@@ -27,7 +27,7 @@ use Rattle.table.specs.declared.refusal.Refusal as Code
 use Rattle.acceptance.specs.Verdicts.{verdict_of}
 use Rattle.acceptance.specs.declared.Announced.{Announced}
 use Rattle.marks.specs.Fitting.{Sound}
-use Rattle.marks.specs.declared.query.Asked as Answered
+use Rattle.landarbeso.specs.declared.numbers.Queried.{Queried}
 use Rattle.calls.specs.Stages.{judged}
 use Rattle.calls.proofs.Judging.{all-passed, stays-refused, goes_on_lem, accepts-all, fails-test, passes-test}
 use Rattle.landarbeso.specs.Numbers.{flat_asked, flat_written, queried_of, written_of, Remains}
@@ -72,8 +72,8 @@ module _ (b m : List ℕ) where
     pub passed-marks : first_refusal (marks_stages b m) ≡ none
     passed-marks = (first-append (table_stages b) (marks_stages b m) (all-passed b first e refl).0).1
 
-    pub query-asked : (q : Answered.Asked) → q.number ≡ length (awaited rest) → q.lowest ≡ get_or (awaited rest) 0 0 → flat_asked (Ok q) ≡ queried_of (query_call b m)
-    query-asked q n l = (λ i. record { refused = 0; place = 0; number = n i; lowest = l i }) ∙ ap queried_of (sym (query-on e))
+    pub query-asked : (n l : ℕ) → n ≡ length (awaited rest) → l ≡ get_or (awaited rest) 0 0 → ◌≡◌ {A = Queried} (record { refused = 0; place = 0; number = n; lowest = l }) (queried_of (query_call b m))
+    query-asked n l p q = (λ i. record { refused = 0; place = 0; number = p i; lowest = q i }) ∙ ap queried_of (sym (query-on e))
 
 -- ---- the remaining program, in a buffer
 
@@ -108,3 +108,7 @@ module _ (b m buf : List ℕ) where
         let fits : true ≡ leb (span_of (rest b m)) (length buf / record_bytes) = sym (le-leb (span_of (rest b m)) (length buf / record_bytes) (omega arith)) in
         let q = sym (remaining-on (goes_on_lem b (first b m) e refl room ∙ (passes-test b 11 [] fits refl ∙ sym (accepts-all b (first b m) e refl)))) in
         record { answer = (λ i. record { refused = 0; place = 0; records = k-is i }) ∙ ap written_of q; buffer-is = o-is ∙ ap (λ (x : Remaining). x.buffer) q }
+
+-- ---- what the search applies
+
+pub ruleset verdicts = (query-refused, query-asked, passed-sound, passed-marks)

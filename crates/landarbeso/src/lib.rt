@@ -96,6 +96,7 @@ pub fn landarbeso_run_list(
     run_list(table, marks, vars, events, out, totals).into()
 }
 
+#[tactic(auto, using(crate::proofs::Verdicts::verdicts))]
 fn query(table: &[u8], marks: &[u8]) -> Result<Asked, Refusal>
     ensures { flat_asked result ≡ queried_of (query_call table.now marks.now) }
 {
@@ -109,6 +110,7 @@ pub fn landarbeso_query(table: &[u8], marks: &[u8]) -> Queried
     query(table, marks).into()
 }
 
+#[tactic(auto, using(crate::proofs::Verdicts::verdicts))]
 // The remaining program, where there is room for it; the answer counts its records.
 fn remaining(table: &[u8], marks: &[u8], out: &mut [u8]) -> Result<u32, Refusal>
     ensures { Remains (remaining_call table.now marks.now out.old) (flat_written result) out.new }
