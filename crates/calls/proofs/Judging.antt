@@ -8,10 +8,9 @@ use mathlib.Core.List.{List, [], ◌∷◌, ◌++◌, append_assoc}
 use mathlib.Core.Option.{Option, none, some}
 use Prim.Native.Nat.{ℕ, ◌+◌, ◌/◌, ◌^◌, ◌<◌}
 use native.Mathlib.Nat.{zero-add}
-use lib.Dec.{eqb, leb}
+use lib.Dec.{leb}
 use lib.IntN.{ℤ}
 use lib.ListN.{length}
-use borrow.Author.Tests.{eq-eqb, ne_eqb}
 use Rattle.rules.specs.Stages.{Refusal, Stage, first_refusal, or_else, refusal, stage, unless}
 use Rattle.rules.specs.Limits.{record_bytes}
 use Rattle.rules.specs.Limits as Rules
@@ -80,14 +79,6 @@ module _ (b : List ℕ) (xs : List Stage) {x : Result Announced Code.Refusal} (e
 -- ---- one stage before others
 
 module _ (b : List ℕ) (k : ℕ) (ss : List Stage) where
-  pub fails-equal : (m n : ℕ) → (m ≡ n → ⊥) → judged b (stage k (unless (eqb m n)) ∷ ss) ≡ refused (refusal k 0)
-  unfolding judged first_refusal
-  fails-equal m n h = rw (ne_eqb m n h)
-
-  pub passes-equal : (m n : ℕ) → m ≡ n → judged b (stage k (unless (eqb m n)) ∷ ss) ≡ judged b ss
-  unfolding judged first_refusal
-  passes-equal m n h = rw (eq-eqb m n h)
-
   pub fails-test : {x y : Bool} → x ≡ y → x ≡ false → judged b (stage k (unless y) ∷ ss) ≡ refused (refusal k 0)
   unfolding judged first_refusal
   fails-test e h = rw (← e, h)
@@ -95,6 +86,10 @@ module _ (b : List ℕ) (k : ℕ) (ss : List Stage) where
   pub passes-test : {x y : Bool} → x ≡ y → x ≡ true → judged b (stage k (unless y) ∷ ss) ≡ judged b ss
   unfolding judged first_refusal
   passes-test e h = rw (← e, h)
+
+  -- as the code refuses what fails a test
+  pub test-fails : {r : Refusal} {x y : Bool} → x ≡ y → (x ≡ false) × (r ≡ refusal k 0) → refused r ≡ judged b (stage k (unless y) ∷ ss)
+  test-fails e h = ap refused h.1 ∙ sym (fails-test e h.0)
 
   pub fails-first : (is : List ℕ) {x : code.Option ℕ} {p : ℕ} → x ≡ first_of is → x ≡ Some p → judged b (stage k is ∷ ss) ≡ refused (refusal k p)
   unfolding judged first_refusal
@@ -121,8 +116,8 @@ module _ (b : List ℕ) (xs : List Stage) {x : Result Announced Code.Refusal} (e
   same-room : y ≡ leb (announced b).outputs (length o / record_bytes)
   same-room = rw (zero-add a.outputs) at r ∙ ap (λ (n : Rules.Announced). leb n.outputs (length o / record_bytes)) (sym (all-passed b xs e h).1)
 
-  pub fails-room : y ≡ false → judged b (room_stage (announced b).outputs o ∷ []) ≡ refused (refusal 11 0)
-  fails-room = fails-test b 11 [] same-room
+  pub room-fails : {q : Refusal} → (y ≡ false) × (q ≡ refusal 11 0) → refused q ≡ judged b (room_stage (announced b).outputs o ∷ [])
+  room-fails = test-fails b 11 [] same-room
 
   pub passes-room : y ≡ true → judged b (room_stage (announced b).outputs o ∷ []) ≡ judged b []
   passes-room = passes-test b 11 [] same-room

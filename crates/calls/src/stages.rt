@@ -7,7 +7,7 @@ ghost use Rattle.rules.specs.Marks.{marks_stages};
 ghost use Rattle.rules.specs.Lists.{event_right, list_fails};
 ghost use Rattle.acceptance.specs.Verdicts.{verdict_of};
 ghost use Rattle.table.specs.Found.{first_of};
-ghost use Rattle.calls.specs.Stages.{judged, start_stages, standing_stages, react_stages, run_stages, First, Low};
+ghost use Rattle.calls.specs.Stages.{judged, start_stages, standing_stages, react_stages, run_stages, First, Low, Tested};
 
 use acceptance::Announced;
 use rules::Limits;
@@ -27,6 +27,17 @@ fn is_event(event: u32) -> bool
     event >= 1 && event as usize <= Limits::NAME
 }
 
+// A test of the whole: what fails it is refused at place 0.
+fn test(stage: Stage, passes: bool) -> Result<(), Refusal>
+    ensures { Tested stage passes result }
+{
+    if passes {
+        Ok(())
+    } else {
+        Err(Refusal::at(stage, 0))
+    }
+}
+
 pub fn start_stages(
     table: &[u8],
     marks: &[u8],
@@ -36,15 +47,9 @@ pub fn start_stages(
     ensures { verdict_of result ≡ judged table.now (start_stages table.now marks.now vars.now out.now) }
 {
     let announced = acceptance::check(table)?;
-    if marks.len() != table.len() / Limits::RECORD_BYTES {
-        return Err(Refusal::at(Stage::Marks, 0));
-    }
-    if vars.len() != Limits::VARIABLES {
-        return Err(Refusal::at(Stage::Variables, 0));
-    }
-    if !has_room(0, announced.outputs, out) {
-        return Err(Refusal::at(Stage::Room, 0));
-    }
+    test(Stage::Marks, marks.len() == table.len() / Limits::RECORD_BYTES)?;
+    test(Stage::Variables, vars.len() == Limits::VARIABLES)?;
+    test(Stage::Room, has_room(0, announced.outputs, out))?;
     Ok(announced)
 }
 
@@ -64,9 +69,7 @@ fn standing_stages(table: &[u8], marks: &[u8], vars: &[i32]) -> Result<Announced
     ensures { verdict_of result ≡ judged table.now (standing_stages table.now marks.now vars.now) }
 {
     let announced = marks_stages(table, marks)?;
-    if vars.len() != Limits::VARIABLES {
-        return Err(Refusal::at(Stage::Variables, 0));
-    }
+    test(Stage::Variables, vars.len() == Limits::VARIABLES)?;
     Ok(announced)
 }
 
@@ -80,12 +83,8 @@ pub fn react_stages(
     ensures { verdict_of result ≡ judged table.now (react_stages table.now marks.now vars.now event out.now) }
 {
     let announced = standing_stages(table, marks, vars)?;
-    if !is_event(event) {
-        return Err(Refusal::at(Stage::Event, 0));
-    }
-    if !has_room(0, announced.outputs, out) {
-        return Err(Refusal::at(Stage::Room, 0));
-    }
+    test(Stage::Event, is_event(event))?;
+    test(Stage::Room, has_room(0, announced.outputs, out))?;
     Ok(announced)
 }
 
