@@ -40,6 +40,16 @@ module _ (ok : ℕ → Bool) (i n : ℕ) where
 
 -- ---- the lowest of them
 
+module _ (ok : ℕ → Bool) (i n : ℕ) (l : i < n) where
+  pub passes-here : ok i ≡ true → first_of (failing ok i (n - i)) ≡ first_of (failing ok (i + 1) (n - (i + 1)))
+  passes-here e = ap first_of (failing-passes ok i n l e)
+
+  pub fails-here : ok i ≡ false → first_of (failing ok i (n - i)) ≡ Some i
+  fails-here e = ap first_of (failing-fails ok i n l e)
+
+pub none_left : (ok : ℕ → Bool) (i n : ℕ) → n ≤ i → first_of (failing ok i (n - i)) ≡ None
+none_left ok i n h = ap first_of (failing-over ok i n h)
+
 pub first-append : (a b : List ℕ) → first_of (a ++ b) ≡ or_next (first_of a) (first_of b)
 first-append [] b = refl
 first-append (i ∷ is) b = refl
