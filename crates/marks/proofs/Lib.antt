@@ -11,3 +11,5 @@ pub mod Spans
 pub mod Leavings
 pub mod Stores
 pub mod Copies
+pub mod Writing
+pub mod WholeProgram

@@ -9,7 +9,7 @@ ghost use Rattle.rules.specs.Table.{span_at, records_of, program_of};
 ghost use Rattle.rules.specs.Marks.{marks_stages, at_rest};
 ghost use Rattle.rules.specs.Calls.{onto};
 ghost use Rattle.rules.specs.Remaining.{records_for};
-ghost use Rattle.table.specs.Places.{tree_of};
+ghost use Rattle.table.specs.Places.{Place, tree_of};
 ghost use Rattle.marks.specs.Fitting.{Sound};
 ghost use Rattle.marks.specs.Rest.{rest_span, rest_records, head_bytes, Rests};
 
@@ -56,15 +56,24 @@ fn write_head(out: &mut [u8], at: usize, kind: u8, span: usize)
     write_records(&record, out, at);
 }
 
+// The records of the construct at a place.
+fn records_at(table: &[u8], place: usize) -> &[u8]
+    requires sound { Sound table.now }
+    requires place { Place table.now place }
+    ensures { result.now ≡ records_for (tree_of table.now place) }
+{
+    let from = Limits::RECORD_BYTES * place;
+    let bytes = Limits::RECORD_BYTES * table::span_at(table, place);
+    &table[from..from + bytes]
+}
+
 // A construct, record for record.
 fn write_whole(part: Marked<'_>, out: &mut [u8], at: usize)
     requires sound { Sound part.table.now }
     requires room { record_bytes * (at + span_at part.table.now part.place) ≤ length out.old }
     ensures { out.new ≡ sets out.old (record_bytes * at) (records_for (tree_of part.entry.table.now part.entry.place)) }
 {
-    let from = Limits::RECORD_BYTES * part.place;
-    let bytes = Limits::RECORD_BYTES * part.span();
-    write_records(&part.table[from..from + bytes], out, at);
+    write_records(records_at(part.table, part.place), out, at);
 }
 
 // What remains of a construct.
@@ -82,7 +91,7 @@ fn write_rest(part: Counted<'_>, out: &mut [u8], at: usize)
             let behind = at + 1 + first.count();
             match head {
                 Head::Par(_) => write_rest(other, out, behind),
-                _ => write_whole(other.at, out, behind),
+                Head::Sequence | Head::Loop => write_whole(other.at, out, behind),
             }
         }
     }
