@@ -18,6 +18,15 @@ fn byte_at(table: &[u8], i: usize, k: usize) -> u8
     table[Limits::RECORD_BYTES * i + k]
 }
 
+// The number of the kind, also one over 19.
+pub fn kind_number_at(table: &[u8], i: usize) -> usize
+    requires { i < records_of table.now }
+    ensures number { result ≡ kind_at table.now i }
+    ensures byte { result < 256 }
+{
+    usize::from(byte_at(table, i, 0))
+}
+
 // The kind, or a number over 19.
 pub fn kind_at(table: &[u8], i: usize) -> Result<Kind, NoKind>
     requires { i < records_of table.now }
@@ -88,5 +97,5 @@ pub fn children_at(table: &[u8], i: usize) -> u8
     ensures children { result ≡ children_of (kind_at table.now i) }
     ensures most { result ≤ 3 }
 {
-    children_of(usize::from(byte_at(table, i, 0)))
+    children_of(kind_number_at(table, i))
 }
