@@ -1,3 +1,9 @@
 -- Laws that the proofs of several functions use.
+pub mod Ends
+pub mod Visiting
+pub mod Firsts
+pub mod Counting
 pub mod Tallies
+pub mod Passing
 pub mod Refusals
+pub mod Announcing

@@ -1,8 +1,9 @@
 -- The answer of the check, as document 01 numbers it.
-use Rattle.std.specs.Prelude.{List, [], ◌∷◌, ℕ, Result, Ok, Err}
+use Rattle.std.specs.Prelude.{List, [], ◌∷◌, ℕ, Option, None, Some, Result, Ok, Err}
 use Rattle.rules.specs.Stages.{stage, first_refusal}
 use Rattle.rules.specs.Check.{Verdict, refused, accepted, verdict, announced, visits_of, hits, loose_break, not_plain, deep_loop, endless_loop}
 use Rattle.table.specs.Refusing.{refusal_of}
+use Rattle.table.specs.declared.refusal.Stage.{Stage}
 use Rattle.table.specs.declared.refusal.Refusal.{Refusal}
 use Rattle.acceptance.specs.Counts.{announced_of}
 use Rattle.acceptance.specs.declared.Announced.{Announced}
@@ -24,3 +25,8 @@ nodes_verdict b =
     []
     ))
     (announced b)
+
+-- a stage, by the place that was found to fail it
+abbrev pub passed_at : Stage → Option ℕ → Result (Unit {0}) Refusal
+passed_at s None = Ok tt
+passed_at s (Some i) = Err (record { stage = s; place = i })
