@@ -4,30 +4,19 @@ ghost use Rattle.acceptance.specs.Verdicts.{verdict_of};
 ghost use Rattle.calls.specs.Stages.{judged};
 ghost use Rattle.lines.specs.Printed.{runner_stages};
 
-use acceptance::{Checked, Refusal};
+use acceptance::Announced;
 use rules::Limits;
-use table::Found;
+use table::{Refusal, Stage};
 
-pub fn verdict(table: &[u8], events: &[u8]) -> Checked
+pub fn verdict(table: &[u8], events: &[u8]) -> Result<Announced, Refusal>
     ensures { verdict_of result ≡ judged table.now (runner_stages table.now events.now) }
 {
-    let checked = acceptance::check(table);
-    match checked {
-        Checked::Refused(refusal) => Checked::Refused(refusal),
-        Checked::Accepted(announced) => {
-            if announced.outputs as usize > Limits::RUNNER_OUTPUTS {
-                return Checked::Refused(Refusal {
-                    number: 11,
-                    place: 0,
-                });
-            }
-            if let Found::At(place) = calls::first_bad(events) {
-                return Checked::Refused(Refusal {
-                    number: 10,
-                    place: place as u32,
-                });
-            }
-            Checked::Accepted(announced)
-        }
+    let announced = acceptance::check(table)?;
+    if announced.outputs as usize > Limits::RUNNER_OUTPUTS {
+        return Err(Refusal::at(Stage::Room, 0));
     }
+    if let Some(place) = calls::first_bad(events) {
+        return Err(Refusal::at(Stage::Event, place));
+    }
+    Ok(announced)
 }
