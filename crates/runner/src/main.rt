@@ -8,7 +8,7 @@ mod tested;
 
 use lines::{Entry, RefusalLine};
 use rules::Limits;
-use run::Run;
+use run::{Program, Run};
 use std::io;
 use table::Refusal;
 
@@ -34,7 +34,7 @@ impl From<io::Error> for Ended {
 // The lines of the run. Table, room and events are tested before the first of them.
 fn print_run(rt: &impl Print, table: &[u8], events: &[u8]) -> Result<(), Ended> {
     tested::verdict(table, events)?;
-    let mut run = Run::of_program(table);
+    let mut run = Run::of_program(Program { table });
     let done = run.start()?;
     run.report(rt, 0, 0, done)?;
     let (records, _) = events.as_chunks::<{ Limits::RECORD_BYTES }>();
