@@ -1,8 +1,7 @@
 -- The verdict on what the runner tests, stage after stage.
 -- Assumes nothing.
-use Rattle.std.proofs.Common.{◌≡◌, refl, sym, ap, ◌∙◌, Bool, true, false, List, [], ◌∷◌, ℕ, ◌≤◌, ◌<◌, leb, Option, Some, None, Result, Ok, Err}
+use Rattle.std.proofs.Common.{◌≡◌, refl, sym, ap, ◌∙◌, Bool, true, false, List, [], ◌∷◌, ℕ, ◌≤◌, leb, Option, Some, None, Result, Ok, Err}
 use Rattle.std.proofs.Math.Option as rules
-use borrow.Author.Tests.{le-leb, lt-leb}
 use Rattle.rules.specs.Stages.{Refusal, refusal, stage, unless, or_else, first_refusal}
 use Rattle.rules.specs.Limits.{most_records, runner_outputs}
 use Rattle.rules.specs.Limits as Rules
@@ -23,23 +22,26 @@ pub same-refusal : (b es : List ℕ) {x : Result Announced Code.Refusal} → ver
 same-refusal b es e h = stays-refused b (table_stages b) (e ∙ checks b) _ h
 
 module _ (b es : List ℕ) {x : Result Announced Code.Refusal} (e : verdict_of x ≡ check b) {a : Announced} (h : x ≡ Ok a) where
-  same-outputs : leb a.outputs runner_outputs ≡ leb (announced b).outputs runner_outputs
-  same-outputs = ap (λ (n : Rules.Announced). leb n.outputs runner_outputs) (sym (all-passed b (table_stages b) (e ∙ checks b) h).1)
-
   after_table : judged b (runner_stages b es) ≡ judged b (stage 11 (unless (leb (announced b).outputs runner_outputs)) ∷ stage 10 (list_fails es) ∷ [])
   after_table = goes_on_lem b (table_stages b) (e ∙ checks b) h _
 
-  after-room : a.outputs ≤ runner_outputs → judged b (runner_stages b es) ≡ judged b (stage 10 (list_fails es) ∷ [])
-  after-room r = after_table ∙ passes-test b 11 _ (sym (le-leb a.outputs runner_outputs r) ∙ same-outputs) refl
+  -- the test of the room, as the code has it
+  module _ {y : Bool} (test : y ≡ leb a.outputs runner_outputs) where
+    room : y ≡ leb (announced b).outputs runner_outputs
+    room = test ∙ ap (λ (n : Rules.Announced). leb n.outputs runner_outputs) (sym (all-passed b (table_stages b) (e ∙ checks b) h).1)
 
-  pub no_room : runner_outputs < a.outputs → judged b (runner_stages b es) ≡ refused (refusal 11 0)
-  no_room r = after_table ∙ fails-test b 11 _ (sym (lt-leb a.outputs runner_outputs r) ∙ same-outputs) refl
+    pub no_room : y ≡ false → judged b (runner_stages b es) ≡ refused (refusal 11 0)
+    no_room r = after_table ∙ fails-test b 11 _ room r
 
-  pub bad-event : a.outputs ≤ runner_outputs → {f : Option ℕ} {p : ℕ} → f ≡ first_of (list_fails es) → f ≡ Some p → judged b (runner_stages b es) ≡ refused (refusal 10 p)
-  bad-event r first found = after-room r ∙ fails-first b 10 [] (list_fails es) first found
+    module _ (r : y ≡ true) {f : Option ℕ} (first : f ≡ first_of (list_fails es)) where
+      after-room : judged b (runner_stages b es) ≡ judged b (stage 10 (list_fails es) ∷ [])
+      after-room = after_table ∙ passes-test b 11 _ room r
 
-  pub all-well : a.outputs ≤ runner_outputs → {f : Option ℕ} → f ≡ first_of (list_fails es) → f ≡ None → verdict_of (Ok a) ≡ judged b (runner_stages b es)
-  all-well r first found = accepts-all b (table_stages b) (e ∙ checks b) h ∙ sym (after-room r ∙ passes-first b 10 [] (list_fails es) first found)
+      pub bad-event : {p : ℕ} → f ≡ Some p → judged b (runner_stages b es) ≡ refused (refusal 10 p)
+      bad-event found = after-room ∙ fails-first b 10 [] (list_fails es) first found
+
+      pub all-well : f ≡ None → verdict_of (Ok a) ≡ judged b (runner_stages b es)
+      all-well found = accepts-all b (table_stages b) (e ∙ checks b) h ∙ sym (after-room ∙ passes-first b 10 [] (list_fails es) first found)
 
 -- ---- an accepted table has at most 256 records
 

@@ -3,10 +3,11 @@
 #![tactic(auto)]
 
 mod file;
+mod line;
 mod run;
 mod tested;
 
-use lines::{Entry, RefusalLine};
+use lines::Entry;
 use rules::Limits;
 use run::{Program, Run};
 use std::io;
@@ -50,15 +51,12 @@ fn print_run(rt: &impl Print, table: &[u8], events: &[u8]) -> Result<(), Ended> 
 // A refusal is the last line.
 fn main(rt: HostRuntime) -> io::Result<()> {
     let mut table = [0; Limits::TABLE_BYTES + 1];
-    let table_len = file::read(&rt, b"program.rec", &mut table);
+    let table = file::read(&rt, b"program.rec", &mut table);
     let mut events = [0; Limits::LIST_BYTES + 1];
-    let events_len = file::read(&rt, b"events.rec", &mut events);
-    match print_run(&rt, &table[..table_len], &events[..events_len]) {
+    let events = file::read(&rt, b"events.rec", &mut events);
+    match print_run(&rt, table, events) {
         Ok(()) => Ok(()),
-        Err(Ended::Refused(refusal)) => rt.print(RefusalLine {
-            number: refusal.stage.number(),
-            place: refusal.place,
-        }),
+        Err(Ended::Refused(refusal)) => rt.print(line::of_refusal(refusal)),
         Err(Ended::Unwritten(error)) => Err(error),
     }
 }

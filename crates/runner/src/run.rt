@@ -3,8 +3,9 @@ ghost use Rattle.std.specs.Prelude.{◌≡◌, ◌≤◌};
 ghost use Rattle.rules.specs.Limits.{most_records};
 ghost use Rattle.rules.specs.Table.{records_of};
 
+use crate::line;
 use calls::Done;
-use lines::{CallLine, Entry, OutLine};
+use lines::{Entry, OutLine};
 use rules::Limits;
 use std::io;
 use table::Refusal;
@@ -83,15 +84,7 @@ impl<'a> Run<'a> {
 
     // The line of a call and those of its outputs.
     pub fn report(&self, rt: &impl Print, event: u32, value: i32, done: Done) -> io::Result<()> {
-        rt.print(CallLine {
-            event,
-            value,
-            steps: done.steps,
-            emitted: done.emitted,
-            highest: done.highest,
-            outputs: done.outputs,
-            finished: done.finished,
-        })?;
+        rt.print(line::of_call(event, value, done))?;
         let (records, _) = self.room.as_chunks::<{ Limits::RECORD_BYTES }>();
         for record in records.iter().take(done.outputs as usize) {
             rt.print(OutLine(Entry::from(*record)))?;

@@ -9,18 +9,18 @@ returns-in_err-announced c =
     let p = err_from_is_err_and c.from_residual.result c.from_residual.ensures.1 in
     rw (p.1, p.2) (same-refusal c.args.table.now c.args.events.now c.check.ensures c.in_err-announced.was)
 
-pub returns-then-announced-gt-RUNNER_OUTPUTS : goal.returns-then-announced-gt-RUNNER_OUTPUTS
-returns-then-announced-gt-RUNNER_OUTPUTS c =
+pub returns-then-not-has_room : goal.returns-then-not-has_room
+returns-then-not-has_room c =
     ap refused c.at.ensures
-    ∙ sym (no_room c.args.table.now c.args.events.now c.check.ensures c.in_ok-announced.was c.if-announced-gt-RUNNER_OUTPUTS.true)
+    ∙ sym (no_room c.args.table.now c.args.events.now c.check.ensures c.in_ok-announced.was c.has_room.ensures c.if-not-has_room.true)
 
 pub returns-in-Some : goal.returns-in-Some
 returns-in-Some c =
     ap refused c.at-in-Some.ensures
-    ∙ sym (bad-event c.args.table.now c.args.events.now c.check.ensures c.in_ok-announced.was
-    c.if-announced-gt-RUNNER_OUTPUTS.false c.first_bad.ensures.first c.in-Some.is)
+    ∙ sym (bad-event c.args.table.now c.args.events.now c.check.ensures c.in_ok-announced.was c.has_room.ensures
+    c.if-not-has_room.false c.first_bad.ensures.first c.in-Some.is)
 
 pub returns : goal.returns
 returns c =
-    all-well c.args.table.now c.args.events.now c.check.ensures c.in_ok-announced.was
-    c.if-announced-gt-RUNNER_OUTPUTS.false c.first_bad.ensures.first c.in_default.is
+    all-well c.args.table.now c.args.events.now c.check.ensures c.in_ok-announced.was c.has_room.ensures
+    c.if-not-has_room.false c.first_bad.ensures.first c.in_default.is
