@@ -1,6 +1,6 @@
 -- A list of events: what is held after i of them stands for what the rules took, and what is left is what the rules have left.
 -- Assumes nothing.
-use Rattle.std.specs.Prelude.{Ok, Some, None}
+use Rattle.std.specs.Prelude.{Result, Ok, Some, None}
 use Rattle.std.specs.Prelude as code
 use mathlib.Core.Path.{◌≡◌, refl, sym, ap, subst, ◌∙◌}
 use mathlib.Core.Bool.{Bool, true, false}
@@ -14,6 +14,7 @@ use lib.IntN.{ℤ}
 use lib.ListN.{length}
 use borrow.Author.Tests.{leb-false, leb-true, le-ltb, lt-ltb, ltb-false}
 use Rattle.rules.specs.Stages.{Refusal, first_refusal, refusal, stage}
+use Rattle.rules.specs.Limits as Rules
 use Rattle.rules.specs.Limits.{list_too_long, most_list_bytes, record_bytes, top_total}
 use Rattle.rules.specs.Table.{kind_at, number_at}
 use Rattle.rules.specs.Check.{announced}
@@ -24,6 +25,8 @@ use Rattle.theory.specs.Stages.{next}
 use Rattle.theory.specs.Round.{react}
 use Rattle.table.specs.Places.{tree_of}
 use Rattle.memory.specs.Acts.{arrays_of}
+use Rattle.acceptance.specs.Verdicts.{verdict_of}
+use Rattle.acceptance.specs.declared.Announced.{Announced}
 use Rattle.table.specs.Refusing.{refusal_of}
 use Rattle.table.specs.declared.refusal.Refusal as Code
 use Rattle.walks.specs.Walks.{array_ops}
@@ -33,7 +36,8 @@ use Rattle.engine.specs.declared.Rounded.{Rounded}
 use Rattle.calls.specs.declared.Done.{Done}
 use Rattle.calls.specs.Answers.{Ran, lent, sent_of, stopped_refusal}
 use Rattle.calls.specs.Holding.{Resting, Stored}
-use Rattle.calls.specs.Stages.{run_stages}
+use Rattle.calls.specs.Stages.{judged, run_stages}
+use Rattle.calls.proofs.Judging.{all-passed, same-steps}
 use Rattle.calls.proofs.Passed.{passed-few}
 use Rattle.calls.proofs.Holding.{Holds, takes-event, valued}
 use Rattle.calls.proofs.Answering.{Did, answered, marks-sized, outputs-are, tested-passed}
@@ -89,15 +93,21 @@ pub record Going (b : List ℕ) (l : Lent) (es : List ℕ) (i : ℕ) (run : Runn
   pub ahead : take_events b l (length l.room / record_bytes) 0 (sent_from es 0 (length es / record_bytes)) (none_taken l) ≡ onward b l es i (taken_first b l es i)
   pub same-room : length o ≡ length l.room
 
-module _ (b m : List ℕ) (v₀ : List ℤ) (es o₀ : List ℕ) (p : first_refusal (run_stages b m v₀ es) ≡ none) where
+module _ (b m : List ℕ) (v₀ : List ℤ) (es o₀ : List ℕ) {x : Result Announced Code.Refusal} (j : verdict_of x ≡ judged b (run_stages b m v₀ es)) {a : Announced} (h : x ≡ Ok a) where
   abbrev all : Lent
   all = lent m v₀ o₀
 
+  list-none : first_refusal (run_stages b m v₀ es) ≡ none
+  list-none = (all-passed b (run_stages b m v₀ es) j h).0
+
+  same-outputs : a.outputs ≡ (announced b).outputs
+  same-outputs = ap (λ (n : Rules.Announced). n.outputs) (sym (all-passed b (run_stages b m v₀ es) j h).1)
+
   pub run-ready : Ready b m v₀
-  run-ready = (ready b m v₀ (stage 10 (list_fails es) ∷ []) p).0
+  run-ready = (ready b m v₀ (stage 10 (list_fails es) ∷ []) list-none).0
 
   list-passed : list_fails es ≡ []
-  list-passed = (next (stage 10 (list_fails es)) [] (ready b m v₀ (stage 10 (list_fails es) ∷ []) p).1).clean
+  list-passed = (next (stage 10 (list_fails es)) [] (ready b m v₀ (stage 10 (list_fails es) ∷ []) list-none).1).clean
 
   pub few-events : length es / record_bytes ≤ 8192
   few-events = go (ltb most_list_bytes (length es)) refl
@@ -130,44 +140,44 @@ module _ (b m : List ℕ) (v₀ : List ℤ) (es o₀ : List ℕ) (p : first_refu
     -- the list, from here on
     whole : list_call b all es ≡ onward b all es i (taken_first b all es i)
     unfolding list_call
-    whole = tested-passed b (run_stages b m v₀ es) all (take_events b all (length o₀ / record_bytes) 0 (sent_from es 0 (length es / record_bytes)) (none_taken all)) p ∙ g.ahead
+    whole = tested-passed b (run_stages b m v₀ es) all (take_events b all (length o₀ / record_bytes) 0 (sent_from es 0 (length es / record_bytes)) (none_taken all)) list-none ∙ g.ahead
 
     module _ {d : Done} {m' : List ℕ} {v' : List ℤ} (s : Stored em hi run m d m' v') where
       -- none is taken any more, and z is refusal 12 or none
       ran : (z : code.Option Code.Refusal) → list_call b all es ≡ answers all (stopped_refusal z) (taken_first b all es i) → Ran (list_call b all es) (Ok (record { done = d; taken = i; stopped = z })) m' v' o
       unfolding answers
       ran z w =
-          let h = answered b o₀ g.holds (passed-few b run-ready.table) (omega (arith, g.within, few-events)) all refl (stopped_refusal z) m (marks-sized b m run-ready.marks) s in
+          let f = answered b o₀ g.holds (passed-few b run-ready.table) (omega (arith, g.within, few-events)) all refl (stopped_refusal z) m (marks-sized b m run-ready.marks) s in
           subst (λ (y : Outcome). Ran y (Ok (record { done = d; taken = i; stopped = z })) m' v' o) (sym w)
-          record { refused = refl; answer = h.answer; taken = sym (reactions-are b all es refl i (omega (arith, g.within, few-events))); marks-are = h.marks-are; vars-are = h.vars-are; room-is = h.room-is }
+          record { refused = refl; answer = f.answer; taken = sym (reactions-are b all es refl i (omega (arith, g.within, few-events))); marks-are = f.marks-are; vars-are = f.vars-are; room-is = f.room-is }
 
       -- all were taken
       pub list-over : length es / record_bytes ≤ i → Ran (list_call b all es) (Ok (record { done = d; taken = i; stopped = None })) m' v' o
       list-over n = ran None (whole ∙ none_left b all es i (taken_first b all es i) n)
 
-      module _ {outputs : ℕ} (most : outputs ≡ (announced b).outputs) {x : Bool} (test : x ≡ leb (run.memory.outputs + outputs) (length o / record_bytes)) where
-        short : x ≡ false → ltb (length o₀ / record_bytes - length (taken_first b all es i).outs) (announced b).outputs ≡ true
+      module _ {y : Bool} (test : y ≡ leb (run.memory.outputs + a.outputs) (length o / record_bytes)) where
+        short : y ≡ false → ltb (length o₀ / record_bytes - length (taken_first b all es i).outs) (announced b).outputs ≡ true
         short e =
             lt-ltb (length o₀ / record_bytes - length (taken_first b all es i).outs) (announced b).outputs
-            (omega (arith, made-are, most, g.holds.held.outs, ap (λ n. n / record_bytes) g.same-room, leb-false (run.memory.outputs + outputs) (length o / record_bytes) (sym test ∙ e)))
+            (omega (arith, made-are, same-outputs, g.holds.held.outs, ap (λ n. n / record_bytes) g.same-room, leb-false (run.memory.outputs + a.outputs) (length o / record_bytes) (sym test ∙ e)))
 
         -- the room has no place for the next
-        pub list-short : x ≡ false → i < length es / record_bytes → {q : Code.Refusal} → refusal_of q ≡ refusal 12 i → Ran (list_call b all es) (Ok (record { done = d; taken = i; stopped = Some q })) m' v' o
+        pub list-short : y ≡ false → i < length es / record_bytes → {q : Code.Refusal} → refusal_of q ≡ refusal 12 i → Ran (list_call b all es) (Ok (record { done = d; taken = i; stopped = Some q })) m' v' o
         list-short e n {q} f = ran (Some q) (whole ∙ short-here b all es i (taken_first b all es i) n (short e) ∙ ap (λ (z : Refusal). answers all (some z) (taken_first b all es i)) (sym f))
 
     -- the event at index i is taken
-    module _ {outputs : ℕ} (most : outputs ≡ (announced b).outputs) {x : Bool} (test : x ≡ leb (run.memory.outputs + outputs) (length o / record_bytes)) where
-      roomy : x ≡ true → length (taken_first b all es i).outs + (announced b).outputs ≤ length o₀ / record_bytes
-      roomy e = omega (arith, made-are, most, ap (λ n. n / record_bytes) g.same-room, leb-true (run.memory.outputs + outputs) (length o / record_bytes) (sym test ∙ e))
+    module _ {y : Bool} (test : y ≡ leb (run.memory.outputs + a.outputs) (length o / record_bytes)) where
+      roomy : y ≡ true → length (taken_first b all es i).outs + (announced b).outputs ≤ length o₀ / record_bytes
+      roomy e = omega (arith, made-are, same-outputs, ap (λ n. n / record_bytes) g.same-room, leb-true (run.memory.outputs + a.outputs) (length o / record_bytes) (sym test ∙ e))
 
-      pub going_on : x ≡ true → i < length es / record_bytes → {steps : ℕ} → steps ≡ (announced b).steps → {e : ℕ} → e ≡ kind_at es i → {z : ℤ} → z ≡ number_at es i → {r : Rounded} {run' : Running} {o' : List ℕ} →
-          round_of r run' o' ≡ react array_ops (tree_of b 0) steps e run.states (arrays_of (valued z run).memory o) → length o' ≡ length o → {hi' : ℕ} → hi' ≡ max hi r.highest → Going b all es (i + 1) run' o' (em + r.emitted) hi'
+      pub going_on : y ≡ true → i < length es / record_bytes → {e : ℕ} → e ≡ kind_at es i → {z : ℤ} → z ≡ number_at es i → {r : Rounded} {run' : Running} {o' : List ℕ} →
+          round_of r run' o' ≡ react array_ops (tree_of b 0) a.steps e run.states (arrays_of (valued z run).memory o) → length o' ≡ length o → {hi' : ℕ} → hi' ≡ max hi r.highest → Going b all es (i + 1) run' o' (em + r.emitted) hi'
       unfolding taken_first
-      going_on e n a k y {r} {run'} {o'} w s h =
+      going_on e n k z {r} {run'} {o'} w s q =
           let t : Ready b m v₀ = run-ready in
-          rw (add-one i, h) record {
+          rw (add-one i, q) record {
             within = omega (arith, n);
-            holds = rw (add-one i) at (takes-event b t.table (passed-few b t.table) o₀ r run' o' i (taken_first b all es i) run o em hi (event_at b all es i) g.holds (roomy e) (rw (a, k, y) at w));
+            holds = rw (add-one i) at (takes-event b t.table (passed-few b t.table) o₀ r run' o' i (taken_first b all es i) run o em hi (event_at b all es i) g.holds (roomy e) (rw (same-steps b (run_stages b m v₀ es) j h, k, z) at w));
             ahead = g.ahead ∙ one_more_lem b all es i (taken_first b all es i) n (le-ltb (length o₀ / record_bytes - length (taken_first b all es i).outs) (announced b).outputs (omega (arith, roomy e)));
             same-room = s ∙ g.same-room;
           }

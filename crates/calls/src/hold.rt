@@ -32,7 +32,6 @@ pub fn resting(marks: &[u8], vars: &[i32]) -> Running
 // The states at rest are the marks.
 fn store_marks(states: &[u32; Limits::RECORDS], marks: &mut [u8])
     requires marks_len_bound { length marks.old ≤ most_records }
-    requires states_len { length states.now ≡ most_records }
     requires bytes { Bytes (length marks.old) states.now }
     ensures { marks.new ≡ take (length marks.old) states.now }
 {
@@ -51,10 +50,8 @@ fn finished(marks: &[u8]) -> bool
 // What ran is stored, and its counts are the answer.
 pub fn finish(emitted: u64, highest: u32, run: &Running, marks: &mut [u8], vars: &mut [i32]) -> Done
     requires marks_len_bound { length marks.old ≤ most_records }
-    requires states_len { length run.now.states ≡ most_records }
     requires bytes { Bytes (length marks.old) run.now.states }
     requires vars_len { length vars.old ≡ variables }
-    requires held_len { length run.now.memory.vars ≡ variables }
     ensures { Stored emitted highest run.now marks.old result marks.new vars.new }
 {
     store_marks(&run.states, marks);

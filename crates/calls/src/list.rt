@@ -1,18 +1,12 @@
 // A list of events. An event is laid out as a record of the table: its number at byte 0, its value at bytes 4 to 7.
-ghost use Rattle.std.specs.Prelude.{◌≡◌, ◌<◌, Ok};
-ghost use Rattle.std.proofs.Math.Option.{none};
-ghost use Rattle.rules.specs.Stages.{first_refusal};
+ghost use Rattle.std.specs.Prelude.{◌≡◌, ◌<◌};
 ghost use Rattle.rules.specs.Table.{kind_at, number_at, records_of};
-ghost use Rattle.rules.specs.Check as Rules;
 ghost use Rattle.rules.specs.Lists.{list_call};
-ghost use Rattle.acceptance.specs.Counts.{announced_of};
 ghost use Rattle.calls.specs.Answers.{Ran, lent};
-ghost use Rattle.calls.specs.Stages.{run_stages};
 
 use crate::Listed;
 use crate::hold::{finish, resting};
 use crate::stages::{has_room, run_stages};
-use acceptance::Announced;
 use engine::react;
 use rules::Limits;
 use table::{Construct, Refusal, Stage};
@@ -38,19 +32,17 @@ impl Event {
     }
 }
 
-// A list whose stages pass. Each event is taken while the room has the announced outputs behind those made.
-fn run_tested(
+// Each event is taken while the room has the announced outputs behind those made.
+pub fn run_list(
     table: &[u8],
-    announced: Announced,
     marks: &mut [u8],
     vars: &mut [i32],
     events: &[u8],
     out: &mut [u8],
-) -> Listed
-    requires events_value { first_refusal (run_stages table.now marks.old vars.old events.now) ≡ none }
-    requires announced_value { announced_of announced ≡ Rules.announced table.now }
-    ensures { Ran (list_call table.now (lent marks.old vars.old out.old) events.now) (Ok result) marks.new vars.new out.new }
+) -> Result<Listed, Refusal>
+    ensures { Ran (list_call table.now (lent marks.old vars.old out.old) events.now) result marks.new vars.new out.new }
 {
+    let announced = run_stages(table, marks, vars, events)?;
     let program = Construct { table, place: 0 };
     let listeners = Listeners::of_program(table);
     let mut run = resting(marks, vars);
@@ -78,22 +70,9 @@ fn run_tested(
         taken += 1;
     }
     let done = finish(emitted, highest, &run, marks, vars);
-    Listed {
+    Ok(Listed {
         done,
         taken,
         stopped,
-    }
-}
-
-pub fn run_list(
-    table: &[u8],
-    marks: &mut [u8],
-    vars: &mut [i32],
-    events: &[u8],
-    out: &mut [u8],
-) -> Result<Listed, Refusal>
-    ensures { Ran (list_call table.now (lent marks.old vars.old out.old) events.now) result marks.new vars.new out.new }
-{
-    let announced = run_stages(table, marks, vars, events)?;
-    Ok(run_tested(table, announced, marks, vars, events, out))
+    })
 }

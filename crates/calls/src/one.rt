@@ -1,38 +1,13 @@
 // The start, and one reaction.
-ghost use Rattle.std.specs.Prelude.{◌≡◌, Ok};
-ghost use Rattle.std.proofs.Math.Option.{none};
-ghost use Rattle.rules.specs.Stages.{first_refusal};
-ghost use Rattle.rules.specs.Check.{announced};
+ghost use Rattle.std.specs.Prelude.{◌≡◌};
 ghost use Rattle.rules.specs.Calls.{start_call, react_call};
 ghost use Rattle.calls.specs.Answers.{Uncounted, lent, sent_of};
-ghost use Rattle.calls.specs.Stages.{start_stages, react_stages};
 
 use crate::Done;
 use crate::hold::{finish, resting};
 use crate::stages::{react_stages, start_stages};
 use table::{Construct, Refusal};
 use walks::Listeners;
-
-// A start whose stages pass.
-fn start_tested(
-    table: &[u8],
-    steps: u32,
-    marks: &mut [u8],
-    vars: &mut [i32],
-    out: &mut [u8],
-) -> Done
-    requires out_value { first_refusal (start_stages table.now marks.old vars.old out.old) ≡ none }
-    requires steps_value { steps ≡ (announced table.now).steps }
-    ensures { Uncounted (start_call table.now (lent marks.old vars.old out.old)) (Ok result) marks.new vars.new out.new }
-{
-    let program = Construct { table, place: 0 };
-    let listeners = Listeners::of_program(table);
-    // A start does not look at the marks, and its event has the value 0.
-    let mut run = resting(&[], vars);
-    run.memory.vars[0] = 0;
-    let round = engine::begin(program, steps, &listeners, &mut run, out);
-    finish(round.emitted, round.highest, &run, marks, vars)
-}
 
 pub fn start(
     table: &[u8],
@@ -43,29 +18,13 @@ pub fn start(
     ensures { Uncounted (start_call table.now (lent marks.old vars.old out.old)) result marks.new vars.new out.new }
 {
     let announced = start_stages(table, marks, vars, out)?;
-    Ok(start_tested(table, announced.steps, marks, vars, out))
-}
-
-// A reaction whose stages pass.
-fn react_tested(
-    table: &[u8],
-    steps: u32,
-    marks: &mut [u8],
-    vars: &mut [i32],
-    event: u32,
-    value: i32,
-    out: &mut [u8],
-) -> Done
-    requires out_value { first_refusal (react_stages table.now marks.old vars.old event out.old) ≡ none }
-    requires steps_value { steps ≡ (announced table.now).steps }
-    ensures { Uncounted (react_call table.now (lent marks.old vars.old out.old) (sent_of event value)) (Ok result) marks.new vars.new out.new }
-{
     let program = Construct { table, place: 0 };
     let listeners = Listeners::of_program(table);
-    let mut run = resting(marks, vars);
-    run.memory.vars[0] = value;
-    let round = engine::react(program, event as usize, steps, &listeners, &mut run, out);
-    finish(round.emitted, round.highest, &run, marks, vars)
+    // A start does not look at the marks, and its event has the value 0.
+    let mut run = resting(&[], vars);
+    run.memory.vars[0] = 0;
+    let round = engine::begin(program, announced.steps, &listeners, &mut run, out);
+    Ok(finish(round.emitted, round.highest, &run, marks, vars))
 }
 
 pub fn react(
@@ -79,5 +38,17 @@ pub fn react(
     ensures { Uncounted (react_call table.now (lent marks.old vars.old out.old) (sent_of event value)) result marks.new vars.new out.new }
 {
     let announced = react_stages(table, marks, vars, event, out)?;
-    Ok(react_tested(table, announced.steps, marks, vars, event, value, out))
+    let program = Construct { table, place: 0 };
+    let listeners = Listeners::of_program(table);
+    let mut run = resting(marks, vars);
+    run.memory.vars[0] = value;
+    let round = engine::react(
+        program,
+        event as usize,
+        announced.steps,
+        &listeners,
+        &mut run,
+        out,
+    );
+    Ok(finish(round.emitted, round.highest, &run, marks, vars))
 }

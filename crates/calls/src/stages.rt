@@ -47,7 +47,10 @@ pub fn start_stages(
     ensures { verdict_of result ≡ judged table.now (start_stages table.now marks.now vars.now out.now) }
 {
     let announced = acceptance::check(table)?;
-    test(Stage::Marks, marks.len() == table.len() / Limits::RECORD_BYTES)?;
+    test(
+        Stage::Marks,
+        marks.len() == table.len() / Limits::RECORD_BYTES,
+    )?;
     test(Stage::Variables, vars.len() == Limits::VARIABLES)?;
     test(Stage::Room, has_room(0, announced.outputs, out))?;
     Ok(announced)
