@@ -1,12 +1,12 @@
 -- Where each event is awaited: a reach for each event of each source, and the parts of a construct that hold it.
-use Rattle.std.specs.Prelude.{◌≡◌, Bool, true, List, ℕ, zero, suc, ◌+◌, ◌≤◌, ◌<◌, min, max, ltb, slice_index_or, ◌&&◌, eqb, if◌then◌else◌}
+use Rattle.std.specs.Prelude.{◌≡◌, Bool, true, List, ℕ, zero, suc, ◌+◌, ◌≤◌, ◌<◌, min, max, ltb, slice_index_or, eqb, ◌&&◌, if◌then◌else◌}
 use Rattle.rules.specs.Limits.{most_records}
+use Rattle.rules.specs.Tree.{eq_source}
 use Rattle.rules.specs.Table.{kind_at, name_at, second_at, records_of}
 use Rattle.rules.specs.Step.{wakes}
 use Rattle.theory.specs.State.{awake}
-use Rattle.rules.specs.Tree.{eq_source}
-use Rattle.table.specs.Named.{source_of}
 use Rattle.table.specs.Kinds.{children_of}
+use Rattle.table.specs.Named.{source_of}
 use Rattle.table.specs.Places.{tree_of}
 use Rattle.table.specs.declared.kind.Source.{Source}
 use Rattle.table.specs.declared.kind.Source.TheVariants.{Input, Internal}
@@ -50,7 +50,7 @@ HeardAmong b n l = (s : Source) (e : ℕ) → e < 64 → reach_of l s e ≡ hear
 pub record Listens (b : List ℕ) (l : Listeners) : Type 0 where
   pub counted : (s : Source) (e : ℕ) → Hear b s e (reach_of l s e)
 
--- and no place beyond the first and the last of them
+-- and each reach begins at the first of them and ends behind the last
 abbrev pub Tight : List ℕ → Listeners → Type 0
 Tight b l = HeardAmong b (records_of b) l
 
@@ -63,7 +63,7 @@ widened_if x i r = if x then widened i r else r
 abbrev pub Noted : Source → ℕ → ℕ → Listeners → Listeners → Type 0
 Noted t v i l l' = (s : Source) (e : ℕ) → e < 64 → reach_of l' s e ≡ widened_if (eq_source (source_of t) (source_of s) && eqb e v) i (reach_of l s e)
 
--- the record there, if it is one
+-- the record there, if it awaits an event
 abbrev pub Heard : List ℕ → ℕ → Listeners → Listeners → Type 0
 Heard b i l l' = (s : Source) (e : ℕ) → e < 64 → reach_of l' s e ≡ widened_if (hears (kind_at b i) (name_at b i) s e) i (reach_of l s e)
 

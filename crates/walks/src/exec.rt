@@ -57,6 +57,7 @@ pub fn after_right(
     }
 }
 
+// What stands at the construct's place and below, which is idle yet.
 #[cycle(exec)]
 #[tactic(auto, using(crate::proofs::Nodes::exec_node), unfolding(theory::specs::State::exec))]
 pub fn exec(at: Construct<'_>, n: u32, run: &mut Running, out: &mut [u8]) -> How
@@ -98,6 +99,7 @@ pub fn exec(at: Construct<'_>, n: u32, run: &mut Running, out: &mut [u8]) -> How
     }
 }
 
+// The right starts where the left has ended at once.
 #[cycle(exec)]
 #[tactic(auto, using(crate::proofs::Nodes::exec_node), unfolding(theory::specs::State::exec))]
 fn exec_seq(at: Construct<'_>, n: u32, run: &mut Running, out: &mut [u8]) -> How

@@ -19,12 +19,13 @@ pub struct Listeners {
 }
 
 impl Listeners {
-    // Nobody listens.
+    // Where nobody listens.
     const NOWHERE: Reach = Reach {
         from: Limits::RECORDS,
         to: 0,
     };
 
+    // Where nothing is known.
     const ANYWHERE: Reach = Reach {
         from: 0,
         to: Limits::RECORDS,
@@ -61,6 +62,7 @@ impl Listeners {
         }
     }
 
+    // One listener more, at place i.
     fn note(&mut self, source: Source, event: usize, i: usize)
         requires { i < most_records }
         ensures { Noted source event i self.old self.new }
