@@ -5,7 +5,7 @@ use mathlib.Core.Path.{◌≡◌, refl, sym, ap, ◌∙◌}
 use mathlib.Core.Bool.{Bool, true}
 use mathlib.Core.List.{List}
 use mathlib.Core.Logic.{◌⊎◌, inl, inr}
-use Prim.Native.Nat.{ℕ, zero, suc, ◌+◌, ◌≤◌}
+use Prim.Native.Nat.{ℕ, zero, suc, ◌+◌, ◌-◌, ◌≤◌, ◌<◌}
 use native.Mathlib.Omega.{arith}
 use lib.Dec.{eqb, ltb}
 use lib.ListN.{get_or}
@@ -88,12 +88,13 @@ pub stays-from : (h : walked.How) → (h ≡ Waiting) ⊎ ((e : ℕ) × (h ≡ R
 stays-from h (inl e) = rw e stays-waiting
 stays-from h (inr e) = rw e.1 (stays-ringing e.0)
 
-module _ (b : List ℕ) (n : ℕ) (path : List ℕ) where
-  pub path_less : {l : List ℕ} {d : ℕ} (e : ℕ) → e ≤ d → Path b n l path d → Path b n l path e
-  path_less e h w = record { root = w.root; each = λ k g. w.each k (omega arith) }
+-- the places above are places too
+pub along-above : (b path : List ℕ) {d : ℕ} (e : ℕ) → e ≤ d → Along b path d → Along b path e
+along-above b path e h a k g = a k (omega arith)
 
-  pub along-less : {d : ℕ} (e : ℕ) → e ≤ d → Along b path d → Along b path e
-  along-less e h a k g = a k (omega arith)
+module _ (b : List ℕ) (n : ℕ) (path : List ℕ) where
+  path-less : {l : List ℕ} (d : ℕ) → Path b n l path (d + 1) → Path b n l path d
+  path-less d w = record { root = w.root; each = λ e h. w.each e (omega arith) }
 
   -- where the part at the end of the way is blocked, so is the program
   pub path-still : {l : List ℕ} (d : ℕ) → Path b n l path d → still n (tree_of b (get_or path d 0)) l ≡ true → still n (tree_of b 0) l ≡ true
@@ -101,7 +102,7 @@ module _ (b : List ℕ) (n : ℕ) (path : List ℕ) where
   path-still {l} (suc d) w e =
       let q : d + 1 ≡ suc d = omega arith in
       let v = rw (← q) at w in
-      path-still d (path_less d (omega arith) v) (part-still (v.each d (omega arith)) (rw (← q) at e))
+      path-still d (path-less d v) (part-still (v.each d (omega arith)) (rw (← q) at e))
 
   -- where it waits or rings, so does the program
   pub path-stays : {l : List ℕ} (m : Arrays) {h : How} {l' : List ℕ} {m' : Arrays} → Stays h → (d : ℕ) → Along b path d → Path b n l path d → resume array_ops n (tree_of b (get_or path d 0)) l m ≡ walk h l' m' → resume array_ops n (tree_of b 0) l m ≡ walk h l' m'
@@ -109,31 +110,25 @@ module _ (b : List ℕ) (n : ℕ) (path : List ℕ) where
   path-stays {l} m {h} {l'} {m'} s (suc d) a w e =
       let q : d + 1 ≡ suc d = omega arith in
       let v = rw (← q) at w in
-      path-stays m s d (along-less d (omega arith) (rw (← q) at a)) (path_less d (omega arith) v) (part_stays array_ops n l m l' m' s (v.each d (omega arith)) (laid-at b (get_or path d 0) (a d (omega arith)).place) (rw (← q) at e))
-
-  -- what the construct e steps down is left as, where the part at the end of the way is left as w
-  pub record Climbed (d e : ℕ) (w v : Walk Arrays) : Type 0 where
-    pub so-far : (l : List ℕ) (m : Arrays) → Path b n l path d → w ≡ resume array_ops n (tree_of b (get_or path d 0)) l m → v ≡ resume array_ops n (tree_of b (get_or path e 0)) l m
-
-  pub climb_none : (d : ℕ) (w : Walk Arrays) → Climbed d d w w
-  climb_none d w = record { so-far = λ l m p x. x }
+      path-stays m s d (along-above b path d (omega arith) a) (path-less d v) (part_stays array_ops n l m l' m' s (v.each d (omega arith)) (laid-at b (get_or path d 0) (a d (omega arith)).place) (rw (← q) at e))
 
   -- one construct more
-  pub climb_step : {d e : ℕ} → e + 1 ≤ d → Along b path d → {w v u : Walk Arrays} → Climbed d (e + 1) w v → u ≡ goes_on array_ops n (get_or path (e + 1) 0) v (tree_of b (get_or path e 0)) → Climbed d e w u
-  climb_step {d} {e} h a {w} {v} {u} c x = record {
-    so-far = λ l m p y.
-        let z = c.so-far l m p y in
-        let k = part-goes-on array_ops n l m (p.each e (omega arith)) (laid-at b (get_or path e 0) (a e (omega arith)).place) in
-        x ∙ rw z (sym (k ∙ ap (λ (j : ℕ). goes_on array_ops n j (resume array_ops n (tree_of b (get_or path (e + 1) 0)) l m) (tree_of b (get_or path e 0))) (place_at b (get_or path (e + 1) 0) (a (e + 1) (omega arith)).place)));
-  }
+  pub climb-step : (d : ℕ) → 0 < d → Along b path d → {w up v : Walk Arrays} → up ≡ goes_on array_ops n (get_or path d 0) w (tree_of b (get_or path (d - 1) 0)) → Climbs b path (d - 1) n up v → Climbs b path d n w v
+  climb-step zero g a u c l m x e = absurd (omega arith)
+  climb-step (suc d) g a {w} {up} {v} u c l m x e =
+      let q : suc d - 1 ≡ d = omega arith in
+      let y : d + 1 ≡ suc d = omega arith in
+      let z = rw (← y) at x in
+      let only = rw y at (z.each d (omega arith)) in
+      let k = part-goes-on array_ops n l m only (laid-at b (get_or path d 0) (a d (omega arith)).place) in
+      rw q at c l m (path-less d z) ((rw q at u) ∙ rw e (sym (k ∙ ap (λ (j : ℕ). goes_on array_ops n j (resume array_ops n (tree_of b (get_or path (suc d) 0)) l m) (tree_of b (get_or path d 0))) (place_at b (get_or path (suc d) 0) (a (suc d) (omega arith)).place))))
 
-  -- at the root
-  pub climbed-all : {d : ℕ} {w v : Walk Arrays} → Climbed d 0 w v → Climbs b path d n w v
-  climbed-all c l m p x = rw p.root at (c.so-far l m p x)
+  -- at the root, and where a walk waits or rings, nothing is left to do
+  pub climbs-root : (d : ℕ) → d ≡ 0 → (w : Walk Arrays) → Climbs b path d n w w
+  climbs-root d z w l m x e = rw (z, x.root) at e
 
-  -- one that waits or rings is left as it is by all above
-  pub climbed-stays : {d e : ℕ} → e ≤ d → Along b path d → {h : How} {l' : List ℕ} {m' : Arrays} {w : Walk Arrays} → Stays h → Climbed d e w (walk h l' m') → Climbs b path d n w (walk h l' m')
-  climbed-stays {d} {e} g a s c l m p x = sym (path-stays m s e (along-less e g a) (path_less e g p) (sym (c.so-far l m p x)))
+  pub climbs-stays : (d : ℕ) → Along b path d → {h : How} (l' : List ℕ) (m' : Arrays) → Stays h → Climbs b path d n (walk h l' m') (walk h l' m')
+  climbs-stays d a l' m' s l m x e = sym (path-stays m s d a x (sym e))
 
 -- ---- the round
 

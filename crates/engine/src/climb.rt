@@ -1,11 +1,11 @@
 // After a part has run, the constructs above it go on, up to the root or to one that waits or has an event pending.
-ghost use Rattle.std.specs.Prelude.{◌≡◌, ◌+◌};
+ghost use Rattle.std.specs.Prelude.{◌≡◌};
 ghost use Rattle.theory.specs.State.{resume};
-ghost use Rattle.theory.specs.Part.{beside, past_left, goes_on};
+ghost use Rattle.theory.specs.Part.{past_left, goes_on};
 ghost use Rattle.table.specs.Constructs.{tree};
 ghost use Rattle.table.specs.Named.{par_of};
-ghost use Rattle.table.specs.Places.{tree_of};
 ghost use Rattle.walks.specs.Walks.{array_ops, how_of, left};
+ghost use Rattle.engine.specs.Forks.{left_side};
 ghost use Rattle.engine.specs.Parts.{Climbs};
 
 use crate::fork::Fork;
@@ -15,26 +15,16 @@ use table::{Construct, Kind};
 use walks::exec::after_right;
 use walks::{How, Running};
 
-// The right of an and or or has run, beside a left that rests.
-fn beside_left(fork: Fork<'_>, rests: How, right: How, run: &mut Running, out: &mut [u8]) -> How
-    ensures { left result run.new out.new ≡ beside array_ops (par_of fork.entry.par) (tree_of fork.entry.at.table.now (fork.entry.at.place + 1)) (how_of rests) (left right run.old out.old) }
-{
-    if rests == How::Idle {
-        return right;
-    }
-    after_right(fork.left(), fork.par, right, run, out)
-}
-
 // After the right of an and or or whose left rests: how the left is, is asked only where it matters.
 fn past_left(fork: Fork<'_>, right: How, n: u32, run: &mut Running, out: &mut [u8]) -> How
-    ensures { left result run.new out.new ≡ past_left array_ops (par_of fork.entry.par) (tree_of fork.entry.at.table.now (fork.entry.at.place + 1)) (how_of right) (left right run.old out.old) (resume array_ops n (tree_of fork.entry.at.table.now (fork.entry.at.place + 1))) }
+    ensures { left result run.new out.new ≡ past_left array_ops (par_of fork.entry.par) (left_side fork.entry) (how_of right) (left right run.old out.old) (resume array_ops n (left_side fork.entry)) }
 {
     match right {
         How::Idle => resume(fork.left(), n, run, out),
-        How::Ended | How::Broke => {
-            let rests = resume(fork.left(), n, run, out);
-            beside_left(fork, rests, right, run, out)
-        }
+        How::Ended | How::Broke => match resume(fork.left(), n, run, out) {
+            How::Idle => right,
+            _ => after_right(fork.left(), fork.par, right, run, out),
+        },
         How::Waiting | How::Ringing(_) => right,
     }
 }
@@ -76,13 +66,11 @@ pub fn climb(path: &Path<'_>, how: How, n: u32, run: &mut Running, out: &mut [u8
 {
     let mut how = how;
     for step in (0..path.steps()).rev() {
-        match how {
-            How::Waiting | How::Ringing(_) => return how,
-            _ => {
-                let part = path.at(step + 1).place;
-                how = goes_on(path.at(step), part, how, n, run, out);
-            }
+        if matches!(how, How::Waiting | How::Ringing(_)) {
+            return how;
         }
+        let part = path.at(step + 1).place;
+        how = goes_on(path.at(step), part, how, n, run, out);
     }
     how
 }

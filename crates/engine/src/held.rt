@@ -1,12 +1,11 @@
 // An and or or whose right has not started: it waits for its turn.
-ghost use Rattle.std.specs.Prelude.{◌≡◌, ◌<◌, ◌+◌};
-ghost use Rattle.rules.specs.Table.{second_at};
+ghost use Rattle.std.specs.Prelude.{◌≡◌, ◌<◌};
 ghost use Rattle.theory.specs.State.{exec, take_turn, resume_held};
 ghost use Rattle.table.specs.Constructs.{tree};
 ghost use Rattle.table.specs.Named.{par_of};
-ghost use Rattle.table.specs.Places.{tree_of};
 ghost use Rattle.memory.specs.Acts.{arrays_of};
 ghost use Rattle.walks.specs.Walks.{array_ops, how_of, left};
+ghost use Rattle.engine.specs.Forks.{left_side, right_side};
 
 use crate::fork::Fork;
 use table::{Construct, Par};
@@ -29,7 +28,7 @@ fn take_turn(place: usize, right: Construct<'_>, n: u32, run: &mut Running, out:
 
 // After the left of an and or or whose right has not started.
 pub fn resume_held(fork: Fork<'_>, how: How, n: u32, run: &mut Running, out: &mut [u8]) -> How
-    ensures { left result run.new out.new ≡ resume_held array_ops n fork.entry.at.place (par_of fork.entry.par) (tree_of fork.entry.at.table.now (fork.entry.at.place + 1)) (how_of how) (left how run.old out.old) (exec array_ops n (tree_of fork.entry.at.table.now (second_at fork.entry.at.table.now fork.entry.at.place))) }
+    ensures { left result run.new out.new ≡ resume_held array_ops n fork.entry.at.place (par_of fork.entry.par) (left_side fork.entry) (how_of how) (left how run.old out.old) (exec array_ops n (right_side fork.entry)) }
 {
     let place = fork.at.place;
     match how {

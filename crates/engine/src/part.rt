@@ -51,16 +51,14 @@ pub fn down<'a>(program: Construct<'a>, reach: Reach, states: &[u32; Limits::REC
     ensures table { result.table.now ≡ program.entry.table.now }
     ensures way { Way program.entry.table.now states.now reach result.places result.steps }
 {
-    let mut path = Path::from(program);
+    let mut path = Path::new(program);
     let mut at = program;
     while at.place < reach.from {
-        match part_of(at, reach, states) {
-            None => return path,
-            Some(part) => {
-                path.push(part);
-                at = part;
-            }
-        }
+        let Some(part) = part_of(at, reach, states) else {
+            return path;
+        };
+        path.push(part);
+        at = part;
     }
     path
 }

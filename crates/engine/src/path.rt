@@ -16,17 +16,16 @@ pub struct Path<'a> {
 }
 
 impl<'a> Path<'a> {
-    // No step: the construct itself.
-    pub fn from(at: Construct<'a>) -> Path<'a>
-        requires { at.place < 256 }
-        ensures table { result.table.now ≡ at.entry.table.now }
+    // No step yet, from this construct on.
+    pub fn new(top: Construct<'a>) -> Path<'a>
+        ensures table { result.table.now ≡ top.entry.table.now }
         ensures steps { result.steps ≡ 0 }
-        ensures root { get_or result.places 0 0 ≡ at.entry.place }
+        ensures top { get_or result.places 0 0 ≡ top.entry.place }
     {
         let mut places = [0; Limits::RECORDS];
-        places[0] = at.place as u16;
+        places[0] = top.place as u16;
         Path {
-            table: at.table,
+            table: top.table,
             places,
             steps: 0,
         }

@@ -1,13 +1,12 @@
 // A tree that has begun runs on; one that is idle answers so, and nothing changes.
-ghost use Rattle.std.specs.Prelude.{◌≡◌, ◌+◌};
-ghost use Rattle.rules.specs.Table.{second_at};
+ghost use Rattle.std.specs.Prelude.{◌≡◌};
 ghost use Rattle.theory.specs.State.{exec, resume, resume_if, resume_seq, resume_loop};
 ghost use Rattle.theory.specs.Part.{par_goes_on};
 ghost use Rattle.table.specs.Constructs.{tree};
 ghost use Rattle.table.specs.Named.{par_of};
-ghost use Rattle.table.specs.Places.{tree_of};
 ghost use Rattle.memory.specs.Acts.{arrays_of};
 ghost use Rattle.walks.specs.Walks.{array_ops, how_of, left};
+ghost use Rattle.engine.specs.Forks.{left_side, right_side};
 ghost use Rattle.engine.specs.Running.{RightAlone};
 
 use crate::fork::Fork;
@@ -115,7 +114,7 @@ pub fn loop_goes_on(body: Construct<'_>, how: How, n: u32, run: &mut Running, ou
 // After the left of an and or or.
 #[cycle(resume)]
 pub fn fork_goes_on(fork: Fork<'_>, how: How, n: u32, run: &mut Running, out: &mut [u8]) -> How
-    ensures { left result run.new out.new ≡ par_goes_on array_ops n fork.entry.at.place (par_of fork.entry.par) (tree_of fork.entry.at.table.now (fork.entry.at.place + 1)) (tree_of fork.entry.at.table.now (second_at fork.entry.at.table.now fork.entry.at.place)) (left how run.old out.old) }
+    ensures { left result run.new out.new ≡ par_goes_on array_ops n fork.entry.at.place (par_of fork.entry.par) (left_side fork.entry) (right_side fork.entry) (left how run.old out.old) }
 {
     if run.states[fork.at.place] != 0 {
         return resume_held(fork, how, n, run, out);

@@ -19,6 +19,14 @@ use walks::exec::exec;
 use walks::wake::wake;
 use walks::{How, Listeners, Reach, Running};
 
+// The state of a turn at a level.
+fn turn_of(level: u32) -> u32
+    requires { level ≤ most_rounds + 1 }
+    ensures { result ≡ turn_of level }
+{
+    level + 3
+}
+
 // The event that is pending; none is named 0.
 fn pending(how: How) -> Option<usize>
     ensures event { event_number result ≡ event_of (how_of how) }
@@ -47,7 +55,7 @@ fn run_part(
     if reach.to <= reach.from {
         return None;
     }
-    let n = level + 3;
+    let n = turn_of(level);
     let path = down(program, reach, &run.states);
     let part = path.end();
     if blocked(part, n, &run.states) {
@@ -64,7 +72,7 @@ fn onward(program: Construct<'_>, level: u32, run: &mut Running, out: &mut [u8])
     ensures left { heard_in result run.new out.new ≡ onward array_ops (tree program.entry) level run.old.states (arrays_of run.old.memory out.old) }
     ensures named { Named result }
 {
-    let reach = running(program, level + 3, &run.states);
+    let reach = running(program, turn_of(level), &run.states);
     run_part(program, level, reach, run, out)
 }
 
@@ -171,6 +179,6 @@ pub fn begin(
     ensures { round_of result run.new out.new ≡ begin array_ops (tree program.entry) most run.old.states (arrays_of run.old.memory out.old) }
 {
     run.memory.tick();
-    let how = exec(program, 4, run, out);
+    let how = exec(program, turn_of(1), run, out);
     rounds(program, most, pending(how), listeners, run, out)
 }
