@@ -7,8 +7,9 @@ use mathlib.Core.List.{List, [], ◌∷◌}
 use Prim.Native.Nat.{ℕ, suc, ◌+◌, ◌≤◌, max}
 use native.Mathlib.Omega.{arith}
 use lib.ListN.{length}
+use Rattle.rules.specs.Table.{kind_at}
 use Rattle.rules.specs.Check.{Around, Visit, hits, count, deepest, is_kind, outside_every, inside_every}
-use Rattle.table.specs.Named.{Stands}
+use Rattle.table.specs.Named.{kind_number}
 use Rattle.memory.specs.declared.act.Act.TheVariants.{Assign, Increase, Copy, Subtract, Compare, Divide, Output}
 use Rattle.table.specs.declared.kind.Source.TheVariants.{Input, Internal}
 use Rattle.table.specs.declared.kind.Par.TheVariants.{And, Or}
@@ -47,28 +48,28 @@ with-output : (x : Bool) (t : Tally) → ◌≡◌ {A = Tally} (record { emits =
 with-output true t = refl
 with-output false t = refl
 
-pub with_at : (b : List ℕ) (i : ℕ) (a : Around) (t : Tally) (k : Kind) → Stands b i k → with_visit (visit_at b a i) t ≡ with_kind k a t
+pub with_at : (b : List ℕ) (i : ℕ) (a : Around) (t : Tally) (k : Kind) → kind_at b i ≡ kind_number k → with_visit (visit_at b a i) t ≡ with_kind k a t
 unfolding with_visit
-with_at b i a t kind.Nothing s = rw s.number
-with_at b i a t (kind.Act Assign) s = rw s.number
-with_at b i a t (kind.Act Increase) s = rw s.number
-with_at b i a t (kind.Act Copy) s = rw s.number
-with_at b i a t (kind.Act Subtract) s = rw s.number
-with_at b i a t (kind.Act Compare) s = rw s.number
-with_at b i a t (kind.Act Divide) s = rw s.number
-with_at b i a t (kind.Act Output) s = rw s.number (with-output a.in_every t)
-with_at b i a t (kind.Await Input) s = rw s.number
-with_at b i a t (kind.Await Internal) s = rw s.number
-with_at b i a t kind.Emit s = rw s.number
-with_at b i a t kind.Break s = rw s.number
-with_at b i a t kind.If s = rw s.number
-with_at b i a t kind.Sequence s = rw s.number
-with_at b i a t kind.Loop s = rw s.number
-with_at b i a t (kind.Every Input) s = rw s.number
-with_at b i a t (kind.Every Internal) s = rw s.number
-with_at b i a t (kind.Par And) s = rw s.number
-with_at b i a t (kind.Par Or) s = rw s.number
-with_at b i a t kind.Fin s = rw s.number
+with_at b i a t kind.Nothing s = rw s
+with_at b i a t (kind.Act Assign) s = rw s
+with_at b i a t (kind.Act Increase) s = rw s
+with_at b i a t (kind.Act Copy) s = rw s
+with_at b i a t (kind.Act Subtract) s = rw s
+with_at b i a t (kind.Act Compare) s = rw s
+with_at b i a t (kind.Act Divide) s = rw s
+with_at b i a t (kind.Act Output) s = rw s (with-output a.in_every t)
+with_at b i a t (kind.Await Input) s = rw s
+with_at b i a t (kind.Await Internal) s = rw s
+with_at b i a t kind.Emit s = rw s
+with_at b i a t kind.Break s = rw s
+with_at b i a t kind.If s = rw s
+with_at b i a t kind.Sequence s = rw s
+with_at b i a t kind.Loop s = rw s
+with_at b i a t (kind.Every Input) s = rw s
+with_at b i a t (kind.Every Internal) s = rw s
+with_at b i a t (kind.Par And) s = rw s
+with_at b i a t (kind.Par Or) s = rw s
+with_at b i a t kind.Fin s = rw s
 
 -- ---- of a list
 

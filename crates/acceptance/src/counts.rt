@@ -25,7 +25,7 @@ impl Tally {
     fn with(self, visit: Visit<'_>) -> Tally
         ensures { result ≡ with_visit (visit_of visit.entry) self }
     {
-        match visit.at.kind() {
+        match visit.kind {
             Kind::Emit => Tally {
                 emits: self.emits.saturating_add(1),
                 ..self
@@ -55,7 +55,7 @@ fn count(visit: Visit<'_>, tally: Tally) -> Option<Tally>
         return None;
     }
     let tally = tally.with(visit);
-    match visit.at.kind().children() {
+    match visit.kind.children() {
         0 => Some(tally),
         1 => count(visit.first(), tally),
         _ => {

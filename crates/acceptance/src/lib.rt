@@ -44,10 +44,10 @@ fn check_records(table: &[u8]) -> Result<(), Refusal>
     ensures shape { IfOk result (λ u. Shape table.now) }
 {
     // One look at each record accepts; a stage at a time finds what is refused.
-    if records::spans_table(table) {
-        if records::first_record(table, |i| records::record_fits(table, i)).is_none() {
-            return Ok(());
-        }
+    if records::spans_table(table)
+        && records::first_record(table, |i| records::record_fits(table, i)).is_none()
+    {
+        return Ok(());
     }
     let shape = records::first_record(table, |i| records::shape_right(table, i));
     passed(Stage::Shape, shape)?;

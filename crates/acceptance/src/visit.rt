@@ -3,6 +3,7 @@ ghost use Rattle.std.specs.Prelude.{◌≡◌, ◌+◌, ◌≤◌, ◌<◌};
 ghost use Rattle.rules.specs.Check.{nothing_around, visits_of, loose_break, not_plain, deep_loop, endless_loop};
 ghost use Rattle.rules.specs.Table.{kind_at};
 ghost use Rattle.table.specs.Kinds.{children_of};
+ghost use Rattle.table.specs.Named.{kind_number, children};
 
 use crate::ending::may_end;
 use rules::Limits;
@@ -17,7 +18,6 @@ pub struct Around {
 }
 
 impl Around {
-    ghost use Rattle.table.specs.Named.{kind_number};
     ghost use Rattle.acceptance.specs.Visits.{around_of, inner};
 
     pub fn nothing() -> Around
@@ -55,16 +55,31 @@ impl Around {
     }
 }
 
-// Around a construct are fewer loops than places before it.
+// What stands around a construct are no more loops than places before it.
 #[derive(Clone, Copy)]
 pub struct Visit<'a> {
     pub at: Construct<'a>,
+    pub kind: Kind,
     pub around: Around,
+    pub ghost number: { kind_at at.table.now at.place ≡ kind_number kind },
+    pub ghost children: { children_of (kind_at at.table.now at.place) ≡ children kind },
     pub ghost few: { around.loops ≤ at.place },
 }
 
 impl<'a> Visit<'a> {
     ghost use Rattle.acceptance.specs.Visits.{visit_of, walk_of, passes, IsFirst, IsSecond};
+
+    fn new(at: Construct<'a>, around: Around) -> Visit<'a>
+        requires { around.loops ≤ at.place }
+        ensures construct { result.at ≡ at.entry }
+        ensures around { result.around ≡ around }
+    {
+        Visit {
+            at,
+            kind: at.kind(),
+            around,
+        }
+    }
 
     // A program, with nothing around it.
     pub fn of(program: Construct<'a>) -> Visit<'a>
@@ -72,17 +87,14 @@ impl<'a> Visit<'a> {
         ensures construct { result.at ≡ program.entry }
         ensures walk { walk_of result ≡ visits_of program.entry.table.now }
     {
-        Visit {
-            at: program,
-            around: Around::nothing(),
-        }
+        Visit::new(program, Around::nothing())
     }
 
     // A break with no loop around it.
     pub fn loose_break(self) -> bool
         ensures { result ≡ loose_break (visit_of self.entry) }
     {
-        self.at.kind() == Kind::Break && self.around.loops == 0
+        self.kind == Kind::Break && self.around.loops == 0
     }
 
     // A construct that an every and a fin may not hold.
@@ -92,7 +104,7 @@ impl<'a> Visit<'a> {
         if !self.around.in_every && !self.around.in_fin {
             return false;
         }
-        match self.at.kind() {
+        match self.kind {
             Kind::Nothing | Kind::Act(_) | Kind::If | Kind::Sequence => false,
             _ => true,
         }
@@ -102,14 +114,14 @@ impl<'a> Visit<'a> {
     pub fn deep_loop(self) -> bool
         ensures { result ≡ deep_loop (visit_of self.entry) }
     {
-        self.at.kind() == Kind::Loop && Limits::LOOPS <= usize::from(self.around.loops)
+        self.kind == Kind::Loop && Limits::LOOPS <= usize::from(self.around.loops)
     }
 
     // A loop whose body may end at once.
     pub fn endless_loop(self) -> bool
         ensures { result ≡ endless_loop (visit_of self.entry) }
     {
-        self.at.kind() == Kind::Loop && may_end(self.at.first())
+        self.kind == Kind::Loop && may_end(self.at.first())
     }
 
     // None of these.
@@ -124,19 +136,13 @@ impl<'a> Visit<'a> {
         requires { 1 ≤ children_of (kind_at self.at.table.now self.at.place) }
         ensures { IsFirst self.entry result }
     {
-        Visit {
-            at: self.at.first(),
-            around: self.around.within(self.at.kind()),
-        }
+        Visit::new(self.at.first(), self.around.within(self.kind))
     }
 
     pub fn second(self) -> Visit<'a>
         requires { 2 ≤ children_of (kind_at self.at.table.now self.at.place) }
         ensures { IsSecond self.entry result }
     {
-        Visit {
-            at: self.at.second(),
-            around: self.around.within(self.at.kind()),
-        }
+        Visit::new(self.at.second(), self.around.within(self.kind))
     }
 }

@@ -17,7 +17,7 @@ pub fn first_within<F: Fn(Visit<'_>) -> bool>(visit: Visit<'_>, fails: &F) -> Op
     if fails(visit) {
         return Some(visit.at.place);
     }
-    match visit.at.kind().children() {
+    match visit.kind.children() {
         0 => None,
         1 => first_within(visit.first(), fails),
         _ => {
