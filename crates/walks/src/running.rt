@@ -2,7 +2,8 @@
 use memory::Memory;
 use rules::Limits;
 
-// One state for each record, and the memory.
+// One state for each record, and the memory. A state is a number, not an enum: theory's theorem react-on-states speaks of lists of these numbers.
+// The room for outputs is lent beside it: a `&mut` in here would need a clause on its ghost name in every contract.
 #[derive(Drop)]
 pub struct Running {
     pub states: [u32; Limits::RECORDS],

@@ -31,7 +31,7 @@ fn awake(at: Construct<'_>, source: Source, event: usize, states: &mut [u32; Lim
     }
 }
 
-// The smallest construct that has all places of the reach.
+// The smallest construct that has all places of the reach. The loop counts no index: it goes from a construct to its part.
 fn holder<'a>(program: Construct<'a>, reach: Reach) -> Construct<'a>
     requires { program.place ≡ 0 }
     ensures table { result.table.now ≡ program.entry.table.now }
@@ -49,6 +49,7 @@ fn holder<'a>(program: Construct<'a>, reach: Reach) -> Construct<'a>
 }
 
 // The whole program, where all that wait for the event stand within the reach.
+// Source and event are two parameters, no struct: each caller names the source as a constant beside a number that it has.
 pub fn wake(
     program: Construct<'_>,
     source: Source,
