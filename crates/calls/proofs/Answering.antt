@@ -1,13 +1,14 @@
 -- From what is held to the answer: what is stored, and what is answered, is what the rules say.
 -- Assumes nothing.
 use Rattle.std.specs.Prelude.{Result, Ok, Err}
+use Rattle.std.specs.List.{list_all}
 use mathlib.Core.Path.{◌≡◌, refl, sym, ap, ◌∙◌}
-use mathlib.Core.Bool.{Bool, ◌&&◌}
+use mathlib.Core.Bool.{Bool, true, ◌&&◌}
 use mathlib.Core.List.{List, [], ◌∷◌}
-use mathlib.Core.Option.{Option, none}
+use mathlib.Core.Option.{Option, none, some}
 use Prim.Native.Nat.{ℕ, ◌≤◌, ◌<◌, min}
 use native.Mathlib.Omega.{arith}
-use lib.Dec.{eqb, eqb→eq}
+use lib.Dec.{eqb, eqb→eq, ltb}
 use lib.IntN.{ℤ}
 use lib.ListN.{length, get_or, take}
 use lib.Seq.{ext_get_or, get_or-take, length-take-le}
@@ -33,6 +34,7 @@ use Rattle.calls.specs.declared.Listed.{Listed}
 use Rattle.calls.specs.Answers.{Ran, Uncounted, answer_of}
 use Rattle.calls.specs.Holding.{Bytes, Stored}
 use Rattle.calls.specs.Stages.{judged}
+use Rattle.calls.proofs.Judging.{early_refusal}
 use Rattle.calls.proofs.Holding.{Holds}
 
 -- ---- marks that pass stage 8
@@ -115,13 +117,16 @@ module _ (b : List ℕ) (ss : List Stage) (l : Lent) (o : Outcome) where
   tested-passed e = rw e
 
   module _ {x : Result Announced Code.Refusal} (e : verdict_of x ≡ judged b ss) {q : Code.Refusal} (h : x ≡ Err q) where
-    refused-is : tested ss l o ≡ refuse l (refusal_of q)
+    first-is : first_refusal ss ≡ some (refusal_of q)
     unfolding judged
-    refused-is = rw (verdict-refused (first_refusal ss) (announced b) (sym e ∙ ap verdict_of h))
+    first-is = verdict-refused (first_refusal ss) (announced b) (sym e ∙ ap verdict_of h)
+
+    refused-is : tested ss l o ≡ refuse l (refusal_of q)
+    refused-is = rw first-is
 
     pub tested-refused : Uncounted (tested ss l o) (Err q) l.marks l.vars l.room
     tested-refused = rw refused-is record { refused = refl; answer = refl; marks-are = refl; vars-are = refl; room-is = refl }
 
     -- of a list no event was taken
-    pub tested-ran : l.totals.reactions ≡ 0 → Ran (tested ss l o) (Err q) l.marks l.vars l.room
-    tested-ran n = rw refused-is record { refused = refl; answer = refl; taken = sym n; marks-are = refl; vars-are = refl; room-is = refl }
+    pub tested-ran : l.totals.reactions ≡ 0 → list_all (λ s. ltb s.number 12) ss ≡ true → Ran (tested ss l o) (Err q) l.marks l.vars l.room
+    tested-ran n k = rw refused-is record { refused = refl; stopped = early_refusal ss k first-is; answer = refl; taken = sym n; marks-are = refl; vars-are = refl; room-is = refl }

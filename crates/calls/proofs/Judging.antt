@@ -3,15 +3,17 @@
 use Rattle.std.specs.Prelude.{Result, Ok, Err, Some, None}
 use Rattle.std.specs.Prelude as code
 use mathlib.Core.Path.{◌≡◌, refl, sym, ap, ◌∙◌}
-use mathlib.Core.Bool.{Bool, true, false}
+use mathlib.Core.Bool.{Bool, true, false, ◌&&◌}
 use mathlib.Core.List.{List, [], ◌∷◌, ◌++◌, append_assoc}
 use mathlib.Core.Option.{Option, none, some}
 use Prim.Native.Nat.{ℕ, ◌+◌, ◌/◌, ◌^◌, ◌<◌}
 use native.Mathlib.Nat.{zero-add}
-use lib.Dec.{leb}
+use lib.Dec.{leb, ltb}
+use borrow.Author.Tests.{ltb-true}
+use Rattle.std.specs.List.{list_all}
 use lib.IntN.{ℤ}
 use lib.ListN.{length}
-use Rattle.rules.specs.Stages.{Refusal, Stage, first_refusal, or_else, refusal, stage, unless}
+use Rattle.rules.specs.Stages.{Refusal, option, Stage, first_refusal, or_else, refusal, stage, unless}
 use Rattle.rules.specs.Limits.{record_bytes}
 use Rattle.rules.specs.Limits as Rules
 use Rattle.rules.specs.Check.{accepted, announced, check, refused, table_stages, verdict}
@@ -47,6 +49,22 @@ first-none (x ∷ xs) ys e = go (first-none xs ys) x.fails e
     go : (first_refusal xs ≡ none → first_refusal (xs ++ ys) ≡ first_refusal ys) → (is : List ℕ) → or_else is x.number (first_refusal xs) ≡ none → or_else is x.number (first_refusal (xs ++ ys)) ≡ first_refusal ys
     go f [] h = f h
     go f (i ∷ is) h = clash (cc)
+
+both : (x y : Bool) → (x && y) ≡ true → (x ≡ true) × (y ≡ true)
+both true y e = (refl, e)
+both false y e = clash (cc)
+
+-- it is one of theirs
+pub early_refusal : (ss : List Stage) {r : Refusal} → list_all (λ s. ltb s.number 12) ss ≡ true → first_refusal ss ≡ some r → r.number < 12
+unfolding first_refusal
+early_refusal [] e h = clash (cc)
+early_refusal (s ∷ ss) {r} e h = go (early_refusal ss (both (ltb s.number 12) (list_all (λ (x : Stage). ltb x.number 12) ss) e).1) s.fails h
+  where
+    go : (first_refusal ss ≡ some r → r.number < 12) → (is : List ℕ) → or_else is s.number (first_refusal ss) ≡ some r → r.number < 12
+    go f [] k = f k
+    go f (i ∷ is) k =
+        let n : s.number ≡ r.number = ap (option 0 (λ (x : Refusal). x.number)) k in
+        rw (← n) (ltb-true s.number 12 (both (ltb s.number 12) (list_all (λ (x : Stage). ltb x.number 12) ss) e).0)
 
 pub checks : (b : List ℕ) → check b ≡ judged b (table_stages b)
 unfolding check judged

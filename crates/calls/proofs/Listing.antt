@@ -1,7 +1,8 @@
 -- A list of events: what is held after i of them stands for what the rules took, and what is left is what the rules have left.
 -- Assumes nothing.
-use Rattle.std.specs.Prelude.{Result, Ok, Some, None}
+use Rattle.std.specs.Prelude.{Result, Ok, Some, None, IfSome}
 use Rattle.std.specs.Prelude as code
+use Rattle.std.specs.List.{list_all}
 use mathlib.Core.Path.{◌≡◌, refl, sym, ap, subst, ◌∙◌}
 use mathlib.Core.Bool.{Bool, true, false}
 use mathlib.Core.List.{List, [], ◌∷◌}
@@ -17,7 +18,8 @@ use Rattle.rules.specs.Stages.{Refusal, first_refusal, refusal, stage}
 use Rattle.rules.specs.Limits as Rules
 use Rattle.rules.specs.Limits.{list_too_long, most_list_bytes, record_bytes, top_total}
 use Rattle.rules.specs.Table.{kind_at, number_at}
-use Rattle.rules.specs.Check.{announced}
+use Rattle.rules.specs.Check.{announced, table_stages}
+use Rattle.rules.specs.Marks.{marks_stages}
 use Rattle.rules.specs.Calls.{Lent, Outcome, Sent, Taken, answers, none_taken, take_event}
 use Rattle.rules.specs.Lists.{list_call, list_fails, sent_from, take_events}
 use Rattle.theory.specs.Logic.{clash}
@@ -27,7 +29,7 @@ use Rattle.table.specs.Places.{tree_of}
 use Rattle.memory.specs.Acts.{arrays_of}
 use Rattle.acceptance.specs.Verdicts.{verdict_of}
 use Rattle.acceptance.specs.declared.Announced.{Announced}
-use Rattle.table.specs.Refusing.{refusal_of}
+use Rattle.table.specs.Refusing.{refusal_of, stage_number}
 use Rattle.table.specs.declared.refusal.Refusal as Code
 use Rattle.walks.specs.Walks.{array_ops}
 use Rattle.walks.specs.declared.running.Running.{Running}
@@ -42,6 +44,11 @@ use Rattle.calls.proofs.Passed.{passed-few}
 use Rattle.calls.proofs.Holding.{Holds, takes-event, valued}
 use Rattle.calls.proofs.Answering.{Did, answered, marks-sized, outputs-are, tested-passed}
 use Rattle.calls.proofs.Reacting.{Ready, loaded, ready}
+
+-- no stage of a list has number 12
+pub early : (b m : List ℕ) (v : List ℤ) (es : List ℕ) → list_all (λ s. ltb s.number 12) (run_stages b m v es) ≡ true
+unfolding table_stages marks_stages
+early b m v es = refl
 
 -- ---- events taken one by one
 
@@ -144,16 +151,16 @@ module _ (b m : List ℕ) (v₀ : List ℤ) (es o₀ : List ℕ) {x : Result Ann
 
     module _ {d : Done} {m' : List ℕ} {v' : List ℤ} (s : Stored em hi run m d m' v') where
       -- none is taken any more, and z is refusal 12 or none
-      ran : (z : code.Option Code.Refusal) → list_call b all es ≡ answers all (stopped_refusal z) (taken_first b all es i) → Ran (list_call b all es) (Ok (record { done = d; taken = i; stopped = z })) m' v' o
+      ran : (z : code.Option Code.Refusal) → IfSome z (λ q. stage_number q.stage ≡ 12) → list_call b all es ≡ answers all (stopped_refusal z) (taken_first b all es i) → Ran (list_call b all es) (Ok (record { done = d; taken = i; stopped = z })) m' v' o
       unfolding answers
-      ran z w =
+      ran z k w =
           let f = answered b o₀ g.holds (passed-few b run-ready.table) (omega (arith, g.within, few-events)) all refl (stopped_refusal z) m (marks-sized b m run-ready.marks) s in
           subst (λ (y : Outcome). Ran y (Ok (record { done = d; taken = i; stopped = z })) m' v' o) (sym w)
-          record { refused = refl; answer = f.answer; taken = sym (reactions-are b all es refl i (omega (arith, g.within, few-events))); marks-are = f.marks-are; vars-are = f.vars-are; room-is = f.room-is }
+          record { refused = refl; stopped = k; answer = f.answer; taken = sym (reactions-are b all es refl i (omega (arith, g.within, few-events))); marks-are = f.marks-are; vars-are = f.vars-are; room-is = f.room-is }
 
       -- all were taken
       pub list-over : length es / record_bytes ≤ i → Ran (list_call b all es) (Ok (record { done = d; taken = i; stopped = None })) m' v' o
-      list-over n = ran None (whole ∙ none_left b all es i (taken_first b all es i) n)
+      list-over n = ran None tt (whole ∙ none_left b all es i (taken_first b all es i) n)
 
       module _ {y : Bool} (test : y ≡ leb (run.memory.outputs + a.outputs) (length o / record_bytes)) where
         short : y ≡ false → ltb (length o₀ / record_bytes - length (taken_first b all es i).outs) (announced b).outputs ≡ true
@@ -163,7 +170,7 @@ module _ (b m : List ℕ) (v₀ : List ℤ) (es o₀ : List ℕ) {x : Result Ann
 
         -- the room has no place for the next
         pub list-short : y ≡ false → i < length es / record_bytes → {q : Code.Refusal} → refusal_of q ≡ refusal 12 i → Ran (list_call b all es) (Ok (record { done = d; taken = i; stopped = Some q })) m' v' o
-        list-short e n {q} f = ran (Some q) (whole ∙ short-here b all es i (taken_first b all es i) n (short e) ∙ ap (λ (z : Refusal). answers all (some z) (taken_first b all es i)) (sym f))
+        list-short e n {q} f = ran (Some q) (ap (λ (z : Refusal). z.number) f) (whole ∙ short-here b all es i (taken_first b all es i) n (short e) ∙ ap (λ (z : Refusal). answers all (some z) (taken_first b all es i)) (sym f))
 
     -- the event at index i is taken
     module _ {y : Bool} (test : y ≡ leb (run.memory.outputs + a.outputs) (length o / record_bytes)) where

@@ -1,11 +1,11 @@
 -- What a call answers and leaves, of an outcome of the rules.
-use Rattle.std.specs.Prelude.{◌≡◌, List, ℕ, ◌+◌, min, ℤ, false, Result, Ok, Err, Some, None}
+use Rattle.std.specs.Prelude.{◌≡◌, List, ℕ, ◌+◌, min, ℤ, false, Result, Ok, Err, Some, None, IfSome, ◌<◌}
 use Rattle.std.specs.Prelude as code
 use Rattle.std.proofs.Math.Option.{Option, none, some}
 use Rattle.rules.specs.Stages as Rules
 use Rattle.rules.specs.Limits.{top_total}
 use Rattle.rules.specs.Calls.{Totals, Lent, Answer, Outcome, Sent}
-use Rattle.table.specs.Refusing.{refusal_of}
+use Rattle.table.specs.Refusing.{refusal_of, stage_number}
 use Rattle.table.specs.declared.refusal.Refusal.{Refusal}
 use Rattle.calls.specs.declared.Done.{Done}
 use Rattle.calls.specs.declared.Listed.{Listed}
@@ -56,6 +56,11 @@ abbrev pub listed_refusal : Result Listed Refusal → Option Rules.Refusal
 listed_refusal (Ok l) = stopped_refusal l.stopped
 listed_refusal (Err r) = some (refusal_of r)
 
+-- that one alone: the stages that refuse a list have lower numbers
+abbrev pub StoppedLast : Result Listed Refusal → Type 0
+StoppedLast (Ok l) = IfSome l.stopped (λ r. stage_number r.stage ≡ 12)
+StoppedLast (Err r) = stage_number r.stage < 12
+
 -- ---- calls
 
 -- the whole answer, and all that was lent
@@ -73,6 +78,7 @@ events_taken (Err r) = 0
 -- the same of a list; where no totals are lent, the reactions that the rules count are the events taken
 pub record Ran (o : Outcome) (r : Result Listed Refusal) (marks : List ℕ) (vars : List ℤ) (room : List ℕ) : Type 0 where
   pub refused : o.refused ≡ listed_refusal r
+  pub stopped : StoppedLast r
   pub answer : o.answer ≡ listed_answer r
   pub taken : events_taken r ≡ o.lent.totals.reactions
   pub marks-are : marks ≡ o.lent.marks

@@ -55,16 +55,9 @@ pub fn run_list(
             stopped = Some(Refusal::at(Stage::Stopped, place));
             break;
         }
-        let event = Event::at(events, place);
-        run.memory.vars[0] = event.value;
-        let round = react(
-            program,
-            event.number,
-            announced.steps,
-            &listeners,
-            &mut run,
-            out,
-        );
+        let Event { number, value } = Event::at(events, place);
+        run.memory.vars[0] = value;
+        let round = react(program, number, announced.steps, &listeners, &mut run, out);
         emitted += round.emitted;
         highest = highest.max(round.highest);
         taken += 1;

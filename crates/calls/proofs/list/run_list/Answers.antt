@@ -10,7 +10,7 @@ use Rattle.calls.proofs.Judging.{same-steps}
 use Rattle.calls.proofs.Passed.{passed-few, passed-spot, passed-steps}
 use Rattle.calls.proofs.Answering.{held_bytes, held-waits, marks-sized, tested-ran}
 use Rattle.calls.proofs.Reacting.{ready-few}
-use Rattle.calls.proofs.Listing.{few-events, going-few, going-none, going_on, list-over, list-short, made-fits, run-ready}
+use Rattle.calls.proofs.Listing.{early, few-events, going-few, going-none, going_on, list-over, list-short, made-fits, run-ready}
 use Rattle.calls.proofs.list.run_list.Goals as goal
 use Rattle.calls.proofs.list.run_list.Goals.{else-loop-place-test, then-loop-place-test+then-not-has_room}
 
@@ -22,7 +22,7 @@ returns-in_err-announced c =
     let all = lent c.args.marks.now c.args.vars.now c.args.out.now in
     let run = take_events b all (length c.args.out.now / 8) 0 (sent_from es 0 (length es / 8)) (none_taken all) in
     let p = err_from_is_err_and c.from_residual.result c.from_residual.ensures.1 in
-    rw (p.1, p.2) (tested-ran b (run_stages b c.args.marks.now c.args.vars.now es) all run c.run_stages.ensures c.in_err-announced.was refl)
+    rw (p.1, p.2) (tested-ran b (run_stages b c.args.marks.now c.args.vars.now es) all run c.run_stages.ensures c.in_err-announced.was refl (early b c.args.marks.now c.args.vars.now es))
 
 pub of_program-listeners-requires : goal.of_program-listeners-requires
 of_program-listeners-requires c = passed-few c.args.table.now (run-ready c.args.table.now c.args.marks.now c.args.vars.now c.args.events.now c.args.out.now c.run_stages.ensures c.in_ok-announced.was).table
@@ -55,15 +55,15 @@ react-round-requires-clause-all_wait c = held-waits c.args.table.now c.args.out.
 
 pub overflow_add-emitted : goal.overflow_add-emitted
 overflow_add-emitted c =
-    let value = to_z-of_z {w = w32} (search rules) ∙ c.at-event.ensures.value in
-    let next = going_on c.args.table.now c.args.marks.now c.args.vars.now c.args.events.now c.args.out.now c.run_stages.ensures c.in_ok-announced.was c.loop-place.invariant.going c.has_room.ensures c.if-not-has_room.false c.loop-place-test.true c.at-event.ensures.number value c.react-round.ensures c.react-round.auto.out refl in
+    let value = to_z-of_z {w = w32} (search rules) ∙ c.at-number.ensures.value in
+    let next = going_on c.args.table.now c.args.marks.now c.args.vars.now c.args.events.now c.args.out.now c.run_stages.ensures c.in_ok-announced.was c.loop-place.invariant.going c.has_room.ensures c.if-not-has_room.false c.loop-place-test.true c.at-number.ensures.number value c.react-round.ensures c.react-round.auto.out refl in
     omega (arith, going-few c.args.table.now c.args.marks.now c.args.vars.now c.args.events.now c.args.out.now c.run_stages.ensures c.in_ok-announced.was next)
 
 pub loop-place-preserved : goal.loop-place-preserved
 loop-place-preserved c =
-    let value = to_z-of_z {w = w32} (search rules) ∙ c.at-event.ensures.value in
+    let value = to_z-of_z {w = w32} (search rules) ∙ c.at-number.ensures.value in
     record {
-      going = going_on c.args.table.now c.args.marks.now c.args.vars.now c.args.events.now c.args.out.now c.run_stages.ensures c.in_ok-announced.was c.loop-place.invariant.going c.has_room.ensures c.if-not-has_room.false c.loop-place-test.true c.at-event.ensures.number value c.react-round.ensures c.react-round.auto.out c.max-highest.ensures;
+      going = going_on c.args.table.now c.args.marks.now c.args.vars.now c.args.events.now c.args.out.now c.run_stages.ensures c.in_ok-announced.was c.loop-place.invariant.going c.has_room.ensures c.if-not-has_room.false c.loop-place-test.true c.at-number.ensures.number value c.react-round.ensures c.react-round.auto.out c.max-highest.ensures;
       taken = omega (arith, c.loop-place.invariant.taken);
       stopped = c.loop-place.invariant.stopped;
     }
