@@ -111,4 +111,4 @@ module _ (b m buf : List ℕ) where
 
 -- ---- what the search applies
 
-pub ruleset verdicts = (query-refused, query-asked, passed-sound, passed-marks)
+pub ruleset verdicts = (query-refused, query-asked, passed-marks)

@@ -110,8 +110,8 @@ pub fn landarbeso_query(table: &[u8], marks: &[u8]) -> Queried
     query(table, marks).into()
 }
 
-#[tactic(auto, using(crate::proofs::Verdicts::verdicts))]
 // The remaining program, where there is room for it; the answer counts its records.
+#[tactic(auto, using(crate::proofs::Verdicts::verdicts))]
 fn remaining(table: &[u8], marks: &[u8], out: &mut [u8]) -> Result<u32, Refusal>
     ensures { Remains (remaining_call table.now marks.now out.old) (flat_written result) out.new }
 {
