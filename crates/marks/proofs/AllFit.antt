@@ -1,14 +1,14 @@
 -- Where each mark is right and each construct fits, stage 8 lets the marks pass: place by place from the last on.
 -- Assumes nothing.
 use Rattle.std.specs.Prelude.{None}
-use mathlib.Core.Path.{◌≡◌, refl, sym, ap, ap₂, subst, ◌∙◌}
-use mathlib.Core.Bool.{Bool, true, false}
+use mathlib.Core.Path.{◌≡◌, refl, sym, ap, ◌∙◌}
+use mathlib.Core.Bool.{Bool, true}
 use mathlib.Core.Logic.{◌⊎◌, inl, inr}
 use mathlib.Core.List.{List, []}
 use mathlib.Core.Option.{none}
 use Prim.Native.Nat.{ℕ, zero, suc, ◌+◌, ◌≤◌, ◌<◌}
 use native.Mathlib.Omega.{arith}
-use lib.ListN.{length, get_or}
+use lib.ListN.{get_or}
 use Rattle.rules.specs.Stages.{failing, first_refusal}
 use Rattle.rules.specs.Table.{second_at, records_of}
 use Rattle.rules.specs.Marks.{mark_right, marks_stages}
@@ -17,9 +17,9 @@ use Rattle.table.specs.declared.kind.Par.TheVariants.{And, Or}
 use Rattle.table.specs.declared.kind.Kind.{Kind}
 use Rattle.table.specs.declared.kind.Kind.TheVariants as kind
 use Rattle.table.specs.Named.{Stands}
-use Rattle.table.specs.Places.{Place, tree_of}
+use Rattle.table.specs.Places.{tree_of}
 use Rattle.table.specs.Found.{first_of}
-use Rattle.marks.specs.Fitting.{Spot, refused_at, seen_of, join_seen, side_fit, par_fit, Says, FitFrom}
+use Rattle.marks.specs.Fitting.{Spot, refused_at, seen_of, join_seen, side_fit, par_fit, Says, Fits, FitFrom}
 use Rattle.marks.specs.declared.fitting.Seen.{Seen}
 use Rattle.marks.specs.declared.fitting.Fit.{Fit}
 use Rattle.marks.specs.declared.fitting.Fit.TheVariants.{Unmarked, Marked, Misfit}
@@ -78,6 +78,10 @@ module _ (b m : List ℕ) (i : ℕ) {k : Kind} (s : Stands b i k) {fits : List F
 
 -- ---- all places
 
+-- at a place of the same table with the same marks
+pub fits-at : {b m b' m' : List ℕ} {i j : ℕ} {v : Fit} → b' ≡ b → m' ≡ m → j ≡ i → mark_right b' m' j ≡ true → Says v (seen_of m' (tree_of b' j)) → Fits b m i v
+fits-at e f q h g = record { right = rw (e, f, q) at h; says = rw (e, f, q) at g }
+
 none-fail : (ok : ℕ → Bool) (i n : ℕ) → ((j : ℕ) → i ≤ j → j < i + n → ok j ≡ true) → failing ok i n ≡ []
 unfolding failing
 none-fail ok i zero h = refl
@@ -88,9 +92,9 @@ nothing-wrong Unmarked s h n = ap (λ z. z.misfit) h
 nothing-wrong Marked s h n = ap (λ z. z.misfit) h
 nothing-wrong Misfit s h n = absurd (n refl)
 
-pub all_pass_lem : (b m : List ℕ) → Place b 0 → length m ≡ records_of b → {vs : List Fit} → FitFrom b m 0 vs → (get_or vs 0 Unmarked ≡ Misfit → ⊥) → none ≡ first_refusal (marks_stages b m)
-all_pass_lem b m p h {vs} known n =
-    let f = known.at 0 (omega arith) p.inside in
+pub all_pass_lem : (b m : List ℕ) {i : ℕ} → Spot b m i → {vs : List Fit} → FitFrom b m 0 vs → (get_or vs 0 Unmarked ≡ Misfit → ⊥) → none ≡ first_refusal (marks_stages b m)
+all_pass_lem b m p {vs} known n =
+    let f = known.at 0 (omega arith) (omega (arith, p.place.inside)) in
     let marks = none-fail (mark_right b m) 0 (records_of b) (λ j g l. (known.at j (omega arith) (omega arith)).right) in
     ap refused_at (sym (nothing-wrong (get_or vs 0 Unmarked) (seen_of m (tree_of b 0)) f.says n))
-    ∙ refuses-misfit b m h {f = None} (sym (ap first_of marks)) refl refl
+    ∙ refuses-misfit b m p.sized (sym (ap first_of marks)) refl

@@ -2,29 +2,28 @@
 -- Assumes nothing.
 use Rattle.std.specs.Prelude.{if◌then◌else◌, None, Some}
 use Rattle.std.specs.Prelude as code
-use mathlib.Core.Path.{◌≡◌, refl, sym, ap, ap₂, subst, ◌∙◌}
+use mathlib.Core.Path.{◌≡◌, refl, ap, ◌∙◌}
 use mathlib.Core.Bool.{Bool, true, false, not, ◌||◌}
-use mathlib.Core.Logic.{◌⊎◌, inl, inr}
+use mathlib.Core.Logic.{inl, inr}
 use mathlib.Core.List.{List, [], ◌∷◌, ◌++◌}
 use mathlib.Core.Option.{Option, none, some}
-use Prim.Native.Nat.{ℕ, ◌+◌, ◌≤◌, ◌<◌}
-use native.Mathlib.Omega.{arith}
+use Prim.Native.Nat.{ℕ, ◌+◌}
 use lib.IntN.{ℤ}
-use lib.ListN.{length, get_or}
+use lib.ListN.{length}
 use borrow.Author.Tests.{eq-eqb, ne_eqb}
 use Rattle.rules.specs.Stages.{is_some, failing, refusal, or_else, first_refusal}
-use Rattle.rules.specs.Tree.{Tree, Par, and, or}
+use Rattle.rules.specs.Tree.{Tree, Par, or}
 use Rattle.rules.specs.Table.{name_at, number_at, second_at, records_of, program_of}
 use Rattle.rules.specs.Marks.{marked, mark_right, marks_stages, rest_seq, rest_if, rest_loop, rest_par, rest_of, misfit, par_misfit, misfits}
 use Rattle.theory.proofs.Accepted.{marks-pass}
 use Rattle.table.specs.declared.kind.Par.TheVariants.{And, Or}
 use Rattle.table.specs.declared.kind.Kind.{Kind}
 use Rattle.table.specs.declared.kind.Kind.TheVariants as kind
-use Rattle.table.specs.Named.{par_of, node_of, Stands}
+use Rattle.table.specs.Named.{node_of, Stands}
 use Rattle.table.specs.Places.{tree_of}
-use Rattle.table.specs.Found.{first_of, Inside, or_next}
+use Rattle.table.specs.Found.{first_of, or_next}
 use Rattle.table.proofs.Finding.{first-append}
-use Rattle.marks.specs.Fitting.{seen_of, misfits_here, join_seen, refused_at}
+use Rattle.marks.specs.Fitting.{seen_of, join_seen, refused_at}
 use Rattle.marks.specs.declared.fitting.Seen.{Seen}
 use Rattle.marks.proofs.Sorts.{Waits, TwoParts, Leaf}
 
@@ -123,12 +122,12 @@ module _ (b m : List ℕ) (h : length m ≡ records_of b) where
   unfolding first_refusal marks_stages seen_of tree_of program_of
   refuses-marks = rw (eq-eqb (length m) (records_of b) h) (first-of-two (failing (mark_right b m) 0 (records_of b)) (misfits m (program_of b)))
 
-  module _ {f : code.Option ℕ} (e : f ≡ first_of (failing (mark_right b m) 0 (records_of b))) where
-    pub refuses-mark : {j : ℕ} → f ≡ Some j → some (refusal 8 j) ≡ first_refusal (marks_stages b m)
-    refuses-mark q = ap (λ g. refused_at (or_next g (seen_of m (tree_of b 0)).misfit)) (sym q ∙ e) ∙ refuses-marks
+  pub refuses-mark : (f : code.Option ℕ) → f ≡ first_of (failing (mark_right b m) 0 (records_of b)) → (f ≡ None → ⊥) → refused_at f ≡ first_refusal (marks_stages b m)
+  refuses-mark None e n = absurd (n refl)
+  refuses-mark (Some j) e n = ap (λ g. refused_at (or_next g (seen_of m (tree_of b 0)).misfit)) e ∙ refuses-marks
 
-    pub refuses-misfit : f ≡ None → {s : Seen} → s ≡ seen_of m (tree_of b 0) → refused_at s.misfit ≡ first_refusal (marks_stages b m)
-    refuses-misfit q u = ap (λ z. refused_at z.misfit) u ∙ (ap (λ g. refused_at (or_next g (seen_of m (tree_of b 0)).misfit)) (sym q ∙ e) ∙ refuses-marks)
+  pub refuses-misfit : None ≡ first_of (failing (mark_right b m) 0 (records_of b)) → {s : Seen} → s ≡ seen_of m (tree_of b 0) → refused_at s.misfit ≡ first_refusal (marks_stages b m)
+  refuses-misfit e u = ap (λ z. refused_at z.misfit) u ∙ (ap (λ g. refused_at (or_next g (seen_of m (tree_of b 0)).misfit)) e ∙ refuses-marks)
 
 -- what stage 8 lets pass is one mark for each record
 pub sized : (b m : List ℕ) → first_refusal (marks_stages b m) ≡ none → length m ≡ records_of b

@@ -3,7 +3,7 @@
 use mathlib.Core.Path.{◌≡◌, refl, sym, ap, ◌∙◌}
 use mathlib.Core.List.{List}
 use mathlib.Core.Option.{Option, none, some}
-use Prim.Native.Nat.{ℕ, ◌+◌, ◌*◌, ◌≤◌, max}
+use Prim.Native.Nat.{ℕ, ◌*◌, ◌≤◌, max}
 use native.Mathlib.Omega.{arith}
 use lib.ListN.{length}
 use lib.Seq.{sets}
@@ -37,10 +37,10 @@ most-span none = refl
 most-span (some t) = omega (arith, eqb-false (span_of t) 0 (something t))
 
 -- the count of the whole program, as the code finds it
-module _ (b m : List ℕ) {b' m' : List ℕ} {i s : ℕ} (table : b' ≡ b) (marks : m' ≡ m) (place : i ≡ 0) (q : s ≡ rest_span m' (tree_of b' i)) where
+module _ (b m : List ℕ) {s : ℕ} (q : s ≡ rest_span m (tree_of b 0)) where
   span_rest : s ≡ span_o (rest_of m (program_of b))
   unfolding rest_span tree_of program_of
-  span_rest = q ∙ rw (table, marks, place)
+  span_rest = q
 
   pub most-rest : max s 1 ≡ span_of (at_rest m (program_of b))
   unfolding at_rest
@@ -64,10 +64,10 @@ module _ (b m : List ℕ) {b' m' : List ℕ} {i s : ℕ} (table : b' ≡ b) (mar
     unfolding at_rest
     span-something = span_rest ∙ some-span (rest_of m (program_of b)) (λ z. e (span_rest ∙ z))
 
-    records-something : rest_records m' (tree_of b' i) ≡ records_for (at_rest m (program_of b))
+    records-something : rest_records m (tree_of b 0) ≡ records_for (at_rest m (program_of b))
     unfolding rest_records at_rest tree_of program_of
-    records-something = rw (table, marks, place) (some-records (rest_of m (program_of b)) (λ z. e (span_rest ∙ z)))
+    records-something = some-records (rest_of m (program_of b)) (λ z. e (span_rest ∙ z))
 
-    pub wrote-something : (out : List ℕ) {o1 : List ℕ} → 8 * span_of (at_rest m (program_of b)) ≤ length out → o1 ≡ sets out (8 * 0) (rest_records m' (tree_of b' i)) → o1 ≡ onto (records_for (at_rest m (program_of b))) out
+    pub wrote-something : (out : List ℕ) {o1 : List ℕ} → 8 * span_of (at_rest m (program_of b)) ≤ length out → o1 ≡ sets out (8 * 0) (rest_records m (tree_of b 0)) → o1 ≡ onto (records_for (at_rest m (program_of b))) out
     wrote-something out h u =
         u ∙ (ap (sets out 0) records-something ∙ stored-front out (records_for (at_rest m (program_of b))) refl (omega (arith, records-length (at_rest m (program_of b)))))

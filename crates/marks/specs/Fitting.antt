@@ -1,5 +1,5 @@
 -- What the marks say of a construct: whether it has one, and the lowest construct in it that does not fit.
-use Rattle.std.specs.Prelude.{◌≡◌, Bool, true, false, not, ◌&&◌, ◌||◌, List, ℕ, ◌+◌, ◌≤◌, ◌<◌, T, length, if◌then◌else◌, Option, None, Some, get_or}
+use Rattle.std.specs.Prelude.{◌≡◌, Bool, true, false, not, ◌&&◌, ◌||◌, List, ℕ, ◌≤◌, ◌<◌, T, length, if◌then◌else◌, Option, None, Some, get_or}
 use Rattle.std.proofs.Math.Option as Rules
 use Rattle.std.proofs.Math.Option.{none, some}
 use Rattle.rules.specs.Stages.{is_some, Refusal, refusal, first_refusal}

@@ -1,6 +1,5 @@
 // A construct of which it is known how many records remain, and the same of every construct behind it.
-ghost use Rattle.std.specs.Prelude.{◌≡◌, ◌<◌, length};
-ghost use Rattle.rules.specs.Table.{records_of};
+ghost use Rattle.std.specs.Prelude.{◌≡◌, ◌<◌};
 ghost use Rattle.table.specs.Places.{tree_of};
 ghost use Rattle.marks.specs.Fitting.{Sound};
 ghost use Rattle.marks.specs.Rest.{rest_span, Rests};
@@ -17,24 +16,11 @@ pub struct Counted<'a> {
 }
 
 impl<'a> Counted<'a> {
-    // The whole program.
-    pub fn program(
-        table: &'a [u8],
-        marks: &'a [u8],
-        rests: &'a [u16; Limits::RECORDS],
-    ) -> Counted<'a>
-        requires sound { Sound table.now }
-        requires sized { length marks.now ≡ records_of table.now }
-        requires known { Rests table.now marks.now 0 rests.now }
-        ensures table { result.at.table.now ≡ table.now }
-        ensures marks { result.at.marks.now ≡ marks.now }
-        ensures place { result.at.place ≡ 0 }
+    pub fn of(at: Marked<'a>, rests: &'a [u16; Limits::RECORDS]) -> Counted<'a>
+        requires sound { Sound at.table.now }
+        requires known { Rests at.table.now at.marks.now at.place rests.now }
+        ensures { result.at ≡ at.entry }
     {
-        let at = Marked {
-            table,
-            marks,
-            place: 0,
-        };
         Counted { at, rests }
     }
 

@@ -13,24 +13,14 @@ use rules::Limits;
 use table::{Kind, Par};
 
 // The lowest mark over 1, or 1 on a kind that does not wait.
-fn first_mark(table: &[u8], marks: &[u8]) -> Option<usize>
-    requires shape { Place table.now 0 }
-    requires sized { length marks.now ≡ records_of table.now }
-    ensures first { result ≡ first_of (failing (mark_right table.now marks.now) 0 (records_of table.now)) }
-    ensures inside { Inside table.now result }
+fn first_mark(program: Marked<'_>) -> Option<usize>
+    ensures first { result ≡ first_of (failing (mark_right program.entry.table.now program.entry.marks.now) 0 (records_of program.entry.table.now)) }
+    ensures inside { Inside program.entry.table.now result }
 {
-    let records = table.len() / Limits::RECORD_BYTES;
-    (0..records).find(
+    (0..program.records()).find(
         |place|
-            requires { Spot table.now marks.now place.now }
-        {
-            !Marked {
-                table,
-                marks,
-                place: *place,
-            }
-            .is_right()
-        },
+            requires { place.now < records_of program.table.now }
+        { !program.at(*place).is_right() },
     )
 }
 
@@ -89,35 +79,32 @@ fn see(at: Marked<'_>) -> Seen
     }
 }
 
-// Whether a construct has marks, and all in it fits.
-#[derive(Clone, Copy, Debug, PartialEq, Eq)]
+// Whether a construct has marks, or does not fit.
+#[derive(Clone, Copy, Debug, PartialEq, Eq, PartialOrd, Ord)]
 pub enum Fit {
     Unmarked,
     Marked,
     Misfit,
 }
 
-// An if or a sequence has marks on one side at most.
+// An if or a sequence, by its sides: it has marks on one of them at most.
 fn side_fit(left: Fit, right: Fit) -> Fit
     ensures { result ≡ side_fit left right }
 {
     match (left, right) {
-        (fit, Fit::Unmarked) => fit,
-        (Fit::Unmarked, fit) => fit,
+        (fit, Fit::Unmarked) | (Fit::Unmarked, fit) => fit,
         _ => Fit::Misfit,
     }
 }
 
-// An and or an or, by its sides.
+// An and or an or, by its sides: an or has marks on both of them or on neither.
 fn par_fit(par: Par, left: Fit, right: Fit) -> Fit
     ensures { result ≡ par_fit par left right }
 {
-    match (par, left, right) {
-        (_, Fit::Misfit, _) | (_, _, Fit::Misfit) => Fit::Misfit,
-        (_, Fit::Unmarked, Fit::Unmarked) => Fit::Unmarked,
-        (_, Fit::Marked, Fit::Marked) => Fit::Marked,
-        (Par::And, _, _) => Fit::Marked,
-        (Par::Or, _, _) => Fit::Misfit,
+    match par {
+        Par::And => left.max(right),
+        Par::Or if left == right => left,
+        Par::Or => Fit::Misfit,
     }
 }
 
@@ -143,23 +130,17 @@ fn fit_at(at: Marked<'_>, fits: &[Fit; Limits::RECORDS]) -> Fit
 }
 
 // One pass from the last place on: where it answers true, stage 8 lets the marks pass; else the walks look for the place.
-fn all_fit(table: &[u8], marks: &[u8]) -> bool
-    requires shape { Place table.now 0 }
-    requires sized { length marks.now ≡ records_of table.now }
-    ensures { LetsPass table.now marks.now result }
+fn all_fit(program: Marked<'_>) -> bool
+    ensures { LetsPass program.entry.table.now program.entry.marks.now result }
 {
-    let records = table.len() / Limits::RECORD_BYTES;
+    let records = program.records();
     // The array has no room for more.
     if Limits::RECORDS < records {
         return false;
     }
     let mut fits = [Fit::Unmarked; Limits::RECORDS];
     for place in (0..records).rev() {
-        let at = Marked {
-            table,
-            marks,
-            place,
-        };
+        let at = program.at(place);
         if !at.is_right() {
             return false;
         }
@@ -177,16 +158,16 @@ pub fn marks_refused(table: &[u8], marks: &[u8]) -> Option<usize>
     if marks.len() != table.len() / Limits::RECORD_BYTES {
         return Some(0);
     }
-    if all_fit(table, marks) {
-        return None;
-    }
-    if let Some(place) = first_mark(table, marks) {
-        return Some(place);
-    }
     let program = Marked {
         table,
         marks,
         place: 0,
     };
-    see(program).misfit
+    if all_fit(program) {
+        return None;
+    }
+    match first_mark(program) {
+        None => see(program).misfit,
+        found => found,
+    }
 }

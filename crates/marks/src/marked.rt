@@ -1,11 +1,12 @@
 // A construct with the marks of its table: a place of a table whose shape is right, and one mark for each record.
-ghost use Rattle.std.specs.Prelude.{◌≡◌, ◌+◌, ◌<◌, ◌≤◌, get_or};
-ghost use Rattle.rules.specs.Table.{kind_at, name_at, span_at, second_at};
+ghost use Rattle.std.specs.Prelude.{◌≡◌, ◌+◌, ◌<◌, ◌≤◌};
+ghost use Rattle.rules.specs.Table.{kind_at, name_at, span_at, second_at, records_of};
 ghost use Rattle.rules.specs.Marks.{may_mark, marked, mark_right};
 ghost use Rattle.table.specs.Kinds.{children_of};
 ghost use Rattle.table.specs.Named.{Stands, kind_number};
 ghost use Rattle.marks.specs.Fitting.{Spot};
 
+use rules::Limits;
 use table::Kind;
 
 // The kinds that wait.
@@ -24,6 +25,27 @@ pub struct Marked<'a> {
 }
 
 impl<'a> Marked<'a> {
+    // How many records the table has.
+    pub fn records(self) -> usize
+        ensures { result ≡ records_of self.entry.table.now }
+    {
+        self.table.len() / Limits::RECORD_BYTES
+    }
+
+    // The construct at another place of the same table.
+    pub fn at(self, place: usize) -> Marked<'a>
+        requires { place < records_of self.table.now }
+        ensures table { result.table.now ≡ self.entry.table.now }
+        ensures marks { result.marks.now ≡ self.entry.marks.now }
+        ensures place { result.place ≡ place }
+    {
+        Marked {
+            table: self.table,
+            marks: self.marks,
+            place,
+        }
+    }
+
     pub fn kind(self) -> Kind
         ensures { Stands self.entry.table.now self.entry.place result }
     {

@@ -58,6 +58,7 @@ pub fn awaited(table: &[u8], marks: &[u8]) -> u64
     let records = table.len() / Limits::RECORD_BYTES;
     let mut set: u64 = 0;
     let mut place: usize = 0;
+    // No range: the walk goes past whole constructs.
     while place < records {
         let at = Marked {
             table,

@@ -19,19 +19,13 @@ use crate::resting::{Head, Rest, count_at, rest_at};
 use rules::Limits;
 
 // How many records remain at each place, from the last place on.
-fn rests_of(table: &[u8], marks: &[u8]) -> [u16; Limits::RECORDS]
-    requires sound { Sound table.now }
-    requires sized { length marks.now ≡ records_of table.now }
-    ensures { Rests table.now marks.now 0 result }
+fn rests_of(program: Marked<'_>) -> [u16; Limits::RECORDS]
+    requires { Sound program.table.now }
+    ensures { Rests program.entry.table.now program.entry.marks.now 0 result }
 {
     let mut rests = [0u16; Limits::RECORDS];
-    for place in (0..table.len() / Limits::RECORD_BYTES).rev() {
-        let at = Marked {
-            table,
-            marks,
-            place,
-        };
-        rests[place] = count_at(at, &rests) as u16;
+    for place in (0..program.records()).rev() {
+        rests[place] = count_at(program.at(place), &rests) as u16;
     }
     rests
 }
@@ -104,9 +98,13 @@ pub fn remaining_span(table: &[u8], marks: &[u8]) -> usize
     ensures records { result ≡ span_of (at_rest marks.now (program_of table.now)) }
     ensures two_bytes { result < 65536 }
 {
-    let rests = rests_of(table, marks);
-    let program = Counted::program(table, marks, &rests);
-    program.count().max(1)
+    let program = Marked {
+        table,
+        marks,
+        place: 0,
+    };
+    let rests = rests_of(program);
+    Counted::of(program, &rests).count().max(1)
 }
 
 // The remaining program, at the front of a buffer that has room for it; the answer counts its records.
@@ -118,8 +116,13 @@ pub fn write_remaining(table: &[u8], marks: &[u8], out: &mut [u8]) -> usize
     ensures two_bytes { result < 65536 }
     ensures written { out.new ≡ onto (records_for (at_rest marks.now (program_of table.now))) out.old }
 {
-    let rests = rests_of(table, marks);
-    let program = Counted::program(table, marks, &rests);
+    let at = Marked {
+        table,
+        marks,
+        place: 0,
+    };
+    let rests = rests_of(at);
+    let program = Counted::of(at, &rests);
     let span = program.count();
     if span == 0 {
         write_head(out, 0, 0, 1);

@@ -75,13 +75,7 @@ pub fn rest_at<'a>(at: Marked<'a>, rests: &'a [u16; Limits::RECORDS]) -> Rest<'a
 {
     let kind = at.kind();
     match kind {
-        Kind::Await(_) | Kind::Every(_) | Kind::Fin => {
-            if at.is_marked() {
-                Rest::Whole
-            } else {
-                Rest::Nothing
-            }
-        }
+        Kind::Await(_) | Kind::Every(_) | Kind::Fin if at.is_marked() => Rest::Whole,
         Kind::If | Kind::Sequence | Kind::Par(_) => {
             let first = at.first();
             let second = at.second();

@@ -1,5 +1,5 @@
 -- What the marks say of a construct, by its kind and its children.
-use Rattle.std.proofs.Common.{sym, ◌∙◌}
+use Rattle.std.proofs.Common.{sym}
 use Rattle.marks.proofs.Seeing.{sees-waiting, sees-leaf, sees-loop, sees-two}
 use Rattle.marks.proofs.fitting.+see.Goals as goal
 

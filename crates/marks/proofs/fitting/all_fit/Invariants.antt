@@ -3,4 +3,4 @@ use Rattle.marks.specs.Fitting.{FitFrom}
 use Rattle.marks.proofs.fitting.all_fit.Given as goal
 
 abbrev pub invariant-loop-place : goal.invariant-loop-place
-invariant-loop-place l = FitFrom l.table l.marks l.place l.fits
+invariant-loop-place l = FitFrom l.program.table.now l.program.marks.now l.place l.fits

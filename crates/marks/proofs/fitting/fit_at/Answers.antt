@@ -1,5 +1,5 @@
 -- Whether a construct fits, by its kind and its parts.
-use Rattle.std.proofs.Common.{sym, ◌∙◌, arith}
+use Rattle.std.proofs.Common.{sym, ◌∙◌}
 use Rattle.marks.proofs.Seeing.{sees-waiting, sees-leaf}
 use Rattle.marks.proofs.AllFit.{fits-loop, fits-sides, fits-par}
 use Rattle.marks.proofs.fitting.fit_at.Goals as goal

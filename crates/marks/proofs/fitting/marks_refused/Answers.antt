@@ -5,8 +5,8 @@ use Rattle.marks.proofs.fitting.marks_refused.Goals as goal
 pub returns-then-marks-table-clause-refused : goal.returns-then-marks-table-clause-refused
 returns-then-marks-table-clause-refused c = refuses-length _ _ c.if-marks-table.true
 
-pub returns-in-Some-clause-refused : goal.returns-in-Some-clause-refused
-returns-in-Some-clause-refused c = refuses-mark _ _ c.if-marks-table.false c.first_mark.ensures.first c.in-Some.is
+pub returns-in-None-clause-refused : goal.returns-in-None-clause-refused
+returns-in-None-clause-refused c = refuses-misfit _ _ c.if-marks-table.false c.in-None.ensures.first c.see.ensures.seen
 
-pub returns-clause-refused : goal.returns-clause-refused
-returns-clause-refused c = refuses-misfit _ _ c.if-marks-table.false c.first_mark.ensures.first c.in_default.is c.see.ensures.seen
+pub returns-in_default-clause-refused : goal.returns-in_default-clause-refused
+returns-in_default-clause-refused c = refuses-mark _ _ c.if-marks-table.false _ c.first_mark.ensures.first c.in_default.not-None

@@ -4,11 +4,8 @@ use Rattle.marks.proofs.Seeing.{sized}
 use Rattle.marks.proofs.WholeProgram.{most-rest}
 use Rattle.marks.proofs.remaining.remaining_span.Goals as goal
 
-pub rests_of-rests-requires-clause-sized : goal.rests_of-rests-requires-clause-sized
-rests_of-rests-requires-clause-sized c = sized _ _ c.requires.passes
-
-pub program-program-requires-clause-sized : goal.program-program-requires-clause-sized
-program-program-requires-clause-sized c = sized _ _ c.requires.passes
+pub invariant_of-program : goal.invariant_of-program
+invariant_of-program c = record { stands = record { place = c.requires.sound.root; sized = sized _ _ c.requires.passes } }
 
 pub returns-clause-records : goal.returns-clause-records
-returns-clause-records c = omega (arith, most-rest _ _ c.program-program.ensures.table c.program-program.ensures.marks c.program-program.ensures.place c.count.ensures.records)
+returns-clause-records c = omega (arith, most-rest _ _ (rw c.of.ensures at c.count.ensures.records))
