@@ -1,9 +1,9 @@
 -- Laws that the proofs of several functions use.
-pub mod OneRecord
 pub mod Ends
-pub mod Visits
+pub mod Visiting
 pub mod Firsts
-pub mod Rows
+pub mod Counting
 pub mod Tallies
-pub mod Announcing
+pub mod Passing
 pub mod Refusals
+pub mod Announcing

@@ -1,6 +1,6 @@
 -- What the functions of the check give.
-pub mod Records
-pub mod Walks
-pub mod Rows
 pub mod Counts
+pub mod Firsts
+pub mod Records
+pub mod Visits
 pub mod Verdicts

@@ -1,22 +1,23 @@
 // Document 01's check of a table: stages 1 to 7 and the announced numbers.
 #![tactic(auto)]
 
-ghost use Rattle.std.specs.Prelude.{◌≡◌, ◌≤◌, ◌<◌};
-ghost use Rattle.rules.specs.Stages.{refusal};
-ghost use Rattle.rules.specs.Limits.{most_records};
-ghost use Rattle.rules.specs.Table.{records_of};
+ghost use Rattle.std.specs.Prelude.{◌≡◌, ◌<◌, ◌^◌, true, IfSome, IfOk, IfErr};
 ghost use Rattle.rules.specs.Check as Rules;
-ghost use Rattle.table.specs.Places.{Place};
-ghost use Rattle.acceptance.specs.Verdicts.{verdict_of, nodes_verdict};
+ghost use Rattle.table.specs.Places.{Shape};
+ghost use Rattle.table.specs.Refusing.{refusal_of};
+ghost use Rattle.acceptance.specs.Verdicts.{verdict_of, nodes_verdict, passed_at};
 
 mod counts;
+mod ending;
+mod range;
 mod records;
+mod visit;
 mod walks;
 
-use table::Found;
+use table::{Construct, Refusal, Stage};
 
 // The most that one reaction can do: internal events, highest level, steps, outputs.
-#[derive(Drop)]
+#[derive(Clone, Copy, Debug, PartialEq, Eq)]
 pub struct Announced {
     pub emitted: u32,
     pub highest: u32,
@@ -24,72 +25,62 @@ pub struct Announced {
     pub outputs: u32,
 }
 
-// The number of the stage that fails, and the lowest place that fails it.
-#[derive(Drop)]
-pub struct Refusal {
-    pub number: u32,
-    pub place: u32,
-}
-
-#[derive(Drop)]
-pub enum Checked {
-    Accepted(Announced),
-    Refused(Refusal),
-}
-
-pub fn refused(number: u32, place: usize) -> Checked
-    requires { place < 4294967296 }
-    ensures { verdict_of result ≡ Rules.refused (refusal number place) }
+// A stage passes where no place was found that fails it.
+fn passed(stage: Stage, found: Option<usize>) -> Result<(), Refusal>
+    requires { IfSome found (λ place. place < 2 ^ 32) }
+    ensures { result ≡ passed_at stage found }
 {
-    Checked::Refused(Refusal {
-        number,
-        place: place as u32,
-    })
+    match found {
+        Some(place) => Err(Refusal::at(stage, place)),
+        None => Ok(()),
+    }
+}
+
+// Stages 2 and 3, of a table that passes stage 1.
+fn check_records(table: &[u8]) -> Result<(), Refusal>
+    requires { Rules.good_length table.now ≡ true }
+    ensures refused { IfErr result (λ r. Rules.check table.now ≡ Rules.refused (refusal_of r)) }
+    ensures passed { IfOk result (λ u. Rules.check table.now ≡ nodes_verdict table.now) }
+    ensures shape { IfOk result (λ u. Shape table.now) }
+{
+    // One look at each record accepts; a stage at a time finds what is refused.
+    if records::spans_table(table)
+        && records::first_record(table, |i| records::record_fits(table, i)).is_none()
+    {
+        return Ok(());
+    }
+    let shape = records::first_record(table, |i| records::shape_right(table, i));
+    passed(Stage::Shape, shape)?;
+    let ranges = records::first_record(table, |i| records::record_fits(table, i));
+    passed(Stage::Ranges, ranges)
 }
 
 // Stages 4 to 7, of a table that passes 1 to 3.
-fn check_nodes(table: &[u8]) -> Checked
-    requires place { Place table.now 0 }
-    requires table_bound { records_of table.now ≤ most_records }
-    ensures { verdict_of result ≡ nodes_verdict table.now }
+fn check_nodes(program: Construct<'_>) -> Result<Announced, Refusal>
+    requires { program.place ≡ 0 }
+    ensures { verdict_of result ≡ nodes_verdict program.entry.table.now }
 {
-    let tally = counts::tally_of_program(table);
-    if tally.right {
-        return Checked::Accepted(counts::announced(table, tally));
+    if let Some(tally) = counts::tally_of_program(program) {
+        return Ok(tally.announced(records::records_of(program.table) as u16));
     }
-    if let Found::At(place) = walks::first_of_program(table, 4) {
-        return refused(4, place);
-    }
-    if let Found::At(place) = walks::first_of_program(table, 5) {
-        return refused(5, place);
-    }
-    if let Found::At(place) = walks::first_of_program(table, 6) {
-        return refused(6, place);
-    }
-    match walks::first_of_program(table, 7) {
-        Found::At(place) => refused(7, place),
-        // Some construct fails, so that this is never so.
-        Found::Nothing => refused(7, 0),
-    }
+    let loose = walks::first_of_program(program, |visit| visit.loose_break());
+    passed(Stage::LooseBreak, loose)?;
+    let unfit = walks::first_of_program(program, |visit| visit.not_plain());
+    passed(Stage::NotPlain, unfit)?;
+    let deep = walks::first_of_program(program, |visit| visit.deep_loop());
+    passed(Stage::DeepLoop, deep)?;
+    let endless = walks::first_of_program(program, |visit| visit.endless_loop());
+    passed(Stage::EndlessLoop, endless)?;
+    // Some construct fails, so that control never comes here.
+    unreachable!()
 }
 
-pub fn check(table: &[u8]) -> Checked
+pub fn check(table: &[u8]) -> Result<Announced, Refusal>
     ensures { verdict_of result ≡ Rules.check table.now }
 {
     if !records::good_length(table) {
-        return refused(1, 0);
+        return Err(Refusal::at(Stage::Length, 0));
     }
-    // One look at each record accepts; a stage at a time finds what is refused.
-    if records::spans_table(table) {
-        if let Found::Nothing = records::first_record(table, 3) {
-            return check_nodes(table);
-        }
-    }
-    if let Found::At(place) = records::first_record(table, 2) {
-        return refused(2, place);
-    }
-    if let Found::At(place) = records::first_record(table, 3) {
-        return refused(3, place);
-    }
-    check_nodes(table)
+    check_records(table)?;
+    check_nodes(Construct { table, place: 0 })
 }

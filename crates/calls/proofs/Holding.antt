@@ -1,4 +1,4 @@
--- What code holds while events are taken stands for what was taken: states, variables, output room and counts.
+-- What code holds while events are taken stands for what was taken: the states and the memory of the running program, and the output room.
 -- Assumes nothing.
 use mathlib.Core.Path.{◌≡◌, sym, ap, subst, ◌∙◌}
 use mathlib.Core.List.{List, [], append-nil}
@@ -27,10 +27,12 @@ use Rattle.theory.specs.Round.{Round, begin, react}
 use Rattle.theory.specs.AnyMemory.{Alike}
 use Rattle.theory.proofs.OnStates.{OnStates, react-on-states, start-on-states}
 use Rattle.table.specs.Places.{tree_of}
+use Rattle.memory.specs.Acts.{arrays_of}
 use Rattle.memory.specs.Arrays.{Arrays, arrays}
 use Rattle.memory.specs.Stands.{Stands}
 use Rattle.memory.proofs.Standing.{after, effect-after, stands-acts, stands-test, stands-tick}
 use Rattle.walks.specs.Walks.{array_ops}
+use Rattle.walks.specs.declared.running.Running.{Running}
 use Rattle.engine.specs.Running.{most_rounds, round_of}
 use Rattle.engine.specs.declared.Rounded.{Rounded}
 use Rattle.calls.proofs.Passed.{passed-emitted, passed-steps, program-is}
@@ -54,22 +56,25 @@ alike room os s = record {
 
 -- ---- what is held
 
--- after k events: states st, variables v, output room o, counts c and those of internal events and level stand for what was taken, which fits the room
-pub record Holds (b room : List ℕ) (k : ℕ) (g : Taken) (st : List ℕ) (v : List ℤ) (o c : List ℕ) (emitted highest : ℕ) : Type 0 where
-  pub stands : Stands room (arrays v o c) (record { vars = g.vars; outs = g.outs }) g.count.steps
-  pub shows : (j : ℕ) → j < records_of b → get_or st j 0 ≡ get_or g.marks j 0
-  pub long : length st ≡ most_records
+-- after k events what runs, the output room and the counts of internal events and level stand for what was taken, which fits the room
+pub record Holds (b room : List ℕ) (k : ℕ) (g : Taken) (run : Running) (o : List ℕ) (emitted highest : ℕ) : Type 0 where
+  pub stands : Stands room (arrays_of run.memory o) (record { vars = g.vars; outs = g.outs }) g.count.steps
+  pub shows : (j : ℕ) → j < records_of b → get_or run.states j 0 ≡ get_or g.marks j 0
+  pub long : length run.states ≡ most_records
   pub emitted-is : emitted ≡ g.count.emitted
   pub highest-is : highest ≡ g.count.highest
   pub held : Held b (length room / record_bytes) g
   pub few-steps : g.count.steps ≤ k * most_rounds
   pub few-emitted : g.count.emitted ≤ k * most_rounds
 
--- the value is put into variable 0
-set_value : (room : List ℕ) (v : List ℤ) (o c : List ℕ) (g : Taken) (z : ℤ) → Stands room (arrays v o c) (record { vars = g.vars; outs = g.outs }) g.count.steps →
-    Behind room g.outs g.count.steps (counted (begun g.vars z) 0) (arrays (set v 0 z) o c)
-unfolding arrays
-set_value room v o c g z h =
+-- the value of the event is put into variable 0
+abbrev pub valued : ℤ → Running → Running
+valued z r = record r { memory = record r.memory { vars = set r.memory.vars 0 z } }
+
+set_value : (room : List ℕ) (run : Running) (o : List ℕ) (g : Taken) (z : ℤ) → Stands room (arrays_of run.memory o) (record { vars = g.vars; outs = g.outs }) g.count.steps →
+    Behind room g.outs g.count.steps (counted (begun g.vars z) 0) (arrays_of (valued z run).memory o)
+unfolding arrays_of arrays
+set_value room run o g z h =
     let n : g.count.steps + 0 ≡ g.count.steps = omega arith in
     record {
       same_vars = ap (λ (x : List ℤ). set x 0 z) h.same_vars;
@@ -79,20 +84,20 @@ set_value room v o c g z h =
       written = rw (append-nil g.outs) h.written;
     }
 
-module _ (b : List ℕ) (passed : first_refusal (table_stages b) ≡ none) (few : records_of b ≤ most_records) (room : List ℕ) (r : Rounded) (st' : List ℕ) (v' : List ℤ) (o' c' : List ℕ) where
+module _ (b : List ℕ) (passed : first_refusal (table_stages b) ≡ none) (few : records_of b ≤ most_records) (room : List ℕ) (r : Rounded) (run' : Running) (o' : List ℕ) where
   -- an event is taken
-  pub takes-event : (k : ℕ) (g : Taken) (st : List ℕ) (v : List ℤ) (o c : List ℕ) (emitted highest : ℕ) (s : Sent) → Holds b room k g st v o c emitted highest → length g.outs + (announced b).outputs ≤ length room / record_bytes →
-      round_of r st' (arrays v' o' c') ≡ react array_ops (tree_of b 0) (announced b).steps s.event st (arrays (set v 0 s.value) o c) →
-      Holds b room (k + 1) (take_event b s g) st' v' o' c' (emitted + r.emitted) (max highest r.highest)
+  pub takes-event : (k : ℕ) (g : Taken) (run : Running) (o : List ℕ) (emitted highest : ℕ) (s : Sent) → Holds b room k g run o emitted highest → length g.outs + (announced b).outputs ≤ length room / record_bytes →
+      round_of r run' o' ≡ react array_ops (tree_of b 0) (announced b).steps s.event run.states (arrays_of (valued s.value run).memory o) →
+      Holds b room (k + 1) (take_event b s g) run' o' (emitted + r.emitted) (max highest r.highest)
   unfolding take_event
-  takes-event k g st v o c em hi s h l e =
+  takes-event k g run o em hi s h l e =
       let R : Counted → Arrays → Type 0 = Behind room g.outs g.count.steps in
       let t : Ran = reaction b g.marks g.vars s.event s.value in
-      let w : round_of r st' (arrays v' o' c') ≡ react array_ops (program_of b) (announced b).steps s.event st (arrays (set v 0 s.value) o c) = rw (program-is b passed) at e in
-      let d : OnStates R b st (round_of r st' (arrays v' o' c')) t =
-      subst (λ (x : Round Arrays). OnStates R b st x t) (sym w)
-      (react-on-states array_ops R (alike room g.outs g.count.steps) b (announced b) (accepted-check b passed) g.marks h.held.marks g.vars s.event s.value st (omega (arith, h.long)) h.shows (arrays (set v 0 s.value) o c)
-      (set_value room v o c g s.value h.stands)) in
+      let w : round_of r run' o' ≡ react array_ops (program_of b) (announced b).steps s.event run.states (arrays_of (valued s.value run).memory o) = rw (program-is b passed) at e in
+      let d : OnStates R b run.states (round_of r run' o') t =
+      subst (λ (x : Round Arrays). OnStates R b run.states x t) (sym w)
+      (react-on-states array_ops R (alike room g.outs g.count.steps) b (announced b) (accepted-check b passed) g.marks h.held.marks g.vars s.event s.value run.states (omega (arith, h.long)) h.shows (arrays_of (valued s.value run).memory o)
+      (set_value room run o g s.value h.stands)) in
       let f : Ended b (announced b) t = reaction-ends b (announced b) (accepted-check b passed) g.marks h.held.marks g.vars s.event s.value in
       record {
         stands = d.memory;
@@ -106,16 +111,17 @@ module _ (b : List ℕ) (passed : first_refusal (table_stages b) ≡ none) (few 
       }
 
   -- a start, on idle states
-  pub starts : (l : Lent) (t : Totals) (st : List ℕ) (o c : List ℕ) → length l.vars ≡ 64 → Stands room (arrays l.vars o c) (record { vars = l.vars; outs = [] }) 0 → length st ≡ most_records → ((j : ℕ) → j < records_of b → get_or st j 0 ≡ 0) → (announced b).outputs ≤ length room / record_bytes →
-      round_of r st' (arrays v' o' c') ≡ begin array_ops (tree_of b 0) (announced b).steps st (arrays (set l.vars 0 (pos 0)) o c) →
-      Holds b room 1 (join_run b t (start b l.vars) (none_taken l)) st' v' o' c' r.emitted r.highest
-  starts l t st o c n h long idle most e =
+  pub starts : (l : Lent) (t : Totals) (run : Running) (o : List ℕ) → length l.vars ≡ 64 → Stands room (arrays_of run.memory o) (record { vars = l.vars; outs = [] }) 0 → length run.states ≡ most_records → ((j : ℕ) → j < records_of b → get_or run.states j 0 ≡ 0) → (announced b).outputs ≤ length room / record_bytes →
+      round_of r run' o' ≡ begin array_ops (tree_of b 0) (announced b).steps run.states (arrays_of (valued (pos 0) run).memory o) →
+      Holds b room 1 (join_run b t (start b l.vars) (none_taken l)) run' o' r.emitted r.highest
+  starts l t run o n h long idle most e =
       let R : Counted → Arrays → Type 0 = Behind room [] 0 in
       let x : List ℤ = l.vars in
-      let w : round_of r st' (arrays v' o' c') ≡ begin array_ops (program_of b) (announced b).steps st (arrays (set x 0 (pos 0)) o c) = rw (program-is b passed) at e in
-      let d : OnStates R b st (round_of r st' (arrays v' o' c')) (start b x) =
-      subst (λ (y : Round Arrays). OnStates R b st y (start b x)) (sym w)
-      (start-on-states array_ops R (alike room [] 0) b (announced b) (accepted-check b passed) x st (omega (arith, long)) idle (arrays (set x 0 (pos 0)) o c) (set_value room x o c (none_taken l) (pos 0) h)) in
+      let a : Arrays = arrays_of (valued (pos 0) run).memory o in
+      let w : round_of r run' o' ≡ begin array_ops (program_of b) (announced b).steps run.states a = rw (program-is b passed) at e in
+      let d : OnStates R b run.states (round_of r run' o') (start b x) =
+      subst (λ (y : Round Arrays). OnStates R b run.states y (start b x)) (sym w)
+      (start-on-states array_ops R (alike room [] 0) b (announced b) (accepted-check b passed) x run.states (omega (arith, long)) idle a (set_value room run o (none_taken l) (pos 0) h)) in
       let f : Ended b (announced b) (start b x) = start-ends b (announced b) (accepted-check b passed) x in
       record {
         stands = d.memory;

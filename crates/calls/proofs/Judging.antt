@@ -1,15 +1,19 @@
 -- The verdict of stages one after the other.
 -- Assumes nothing.
+use Rattle.std.specs.Prelude.{Result, Ok, Err, Some, None}
+use Rattle.std.specs.Prelude as code
 use mathlib.Core.Path.{◌≡◌, refl, sym, ap, ◌∙◌}
-use mathlib.Core.Bool.{Bool, true, false}
+use mathlib.Core.Bool.{Bool, true, false, ◌&&◌}
 use mathlib.Core.List.{List, [], ◌∷◌, ◌++◌, append_assoc}
 use mathlib.Core.Option.{Option, none, some}
-use Prim.Native.Nat.{ℕ, ◌/◌, ◌<◌}
-use lib.Dec.{eqb, leb}
+use Prim.Native.Nat.{ℕ, ◌+◌, ◌/◌, ◌^◌, ◌<◌}
+use native.Mathlib.Nat.{zero-add}
+use lib.Dec.{leb, ltb}
+use borrow.Author.Tests.{ltb-true}
+use Rattle.std.specs.List.{list_all}
 use lib.IntN.{ℤ}
 use lib.ListN.{length}
-use borrow.Author.Tests.{eq-eqb, ne_eqb}
-use Rattle.rules.specs.Stages.{Refusal, Stage, first_refusal, or_else, refusal, stage, unless}
+use Rattle.rules.specs.Stages.{Refusal, option, Stage, first_refusal, or_else, refusal, stage, unless}
 use Rattle.rules.specs.Limits.{record_bytes}
 use Rattle.rules.specs.Limits as Rules
 use Rattle.rules.specs.Check.{accepted, announced, check, refused, table_stages, verdict}
@@ -20,14 +24,11 @@ use Rattle.theory.proofs.Accepted.{verdict-refused, verdict-accepted}
 use Rattle.acceptance.specs.Counts.{announced_of}
 use Rattle.acceptance.specs.Verdicts.{verdict_of}
 use Rattle.acceptance.specs.declared.Announced.{Announced}
-use Rattle.acceptance.specs.declared.Refusal as Code
-use Rattle.acceptance.specs.declared.Checked.{Checked}
-use Rattle.acceptance.specs.declared.Checked.TheVariants.{Accepted, Refused}
+use Rattle.table.specs.Refusing.{refusal_of}
+use Rattle.table.specs.declared.refusal.Refusal as Code
 use Rattle.table.specs.Found.{first_of}
 use Rattle.table.proofs.Finding.{found-fails, found_none}
 use Rattle.marks.specs.Fitting.{refused_at}
-use Rattle.table.specs.declared.Found.{Found}
-use Rattle.table.specs.declared.Found.TheVariants.{At, Nothing}
 use Rattle.calls.specs.Stages.{Low, judged, standing_stages}
 
 -- what the first stages refuse, and what they let pass
@@ -49,18 +50,34 @@ first-none (x ∷ xs) ys e = go (first-none xs ys) x.fails e
     go f [] h = f h
     go f (i ∷ is) h = clash (cc)
 
+both : (x y : Bool) → (x && y) ≡ true → (x ≡ true) × (y ≡ true)
+both true y e = (refl, e)
+both false y e = clash (cc)
+
+-- it is one of theirs
+pub early_refusal : (ss : List Stage) {r : Refusal} → list_all (λ s. ltb s.number 12) ss ≡ true → first_refusal ss ≡ some r → r.number < 12
+unfolding first_refusal
+early_refusal [] e h = clash (cc)
+early_refusal (s ∷ ss) {r} e h = go (early_refusal ss (both (ltb s.number 12) (list_all (λ (x : Stage). ltb x.number 12) ss) e).1) s.fails h
+  where
+    go : (first_refusal ss ≡ some r → r.number < 12) → (is : List ℕ) → or_else is s.number (first_refusal ss) ≡ some r → r.number < 12
+    go f [] k = f k
+    go f (i ∷ is) k =
+        let n : s.number ≡ r.number = ap (option 0 (λ (x : Refusal). x.number)) k in
+        rw (← n) (ltb-true s.number 12 (both (ltb s.number 12) (list_all (λ (x : Stage). ltb x.number 12) ss) e).0)
+
 pub checks : (b : List ℕ) → check b ≡ judged b (table_stages b)
 unfolding check judged
 checks b = refl
 
 -- ---- after earlier stages, whose verdict the code has
 
-module _ (b : List ℕ) (xs : List Stage) {x : Checked} (e : verdict_of x ≡ judged b xs) where
-  pub stays-refused : (ys : List Stage) {r : Code.Refusal} → x ≡ Refused r → verdict_of (Refused r) ≡ judged b (xs ++ ys)
+module _ (b : List ℕ) (xs : List Stage) {x : Result Announced Code.Refusal} (e : verdict_of x ≡ judged b xs) where
+  pub stays-refused : (ys : List Stage) {r : Code.Refusal} → x ≡ Err r → verdict_of (Err r) ≡ judged b (xs ++ ys)
   unfolding judged
   stays-refused ys {r} h = sym (ap (λ (o : Option Refusal). verdict o (announced b)) (first_some xs ys (verdict-refused (first_refusal xs) (announced b) (sym e ∙ ap verdict_of h))))
 
-  module _ {a : Announced} (h : x ≡ Accepted a) where
+  module _ {a : Announced} (h : x ≡ Ok a) where
     pub all-passed : (first_refusal xs ≡ none) × (announced b ≡ announced_of a)
     unfolding judged
     all-passed = verdict-accepted (first_refusal xs) (announced b) (sym e ∙ ap verdict_of h)
@@ -73,21 +90,13 @@ module _ (b : List ℕ) (xs : List Stage) {x : Checked} (e : verdict_of x ≡ ju
     same-steps = ap (λ (n : Rules.Announced). n.steps) (sym all-passed.1)
 
     -- the last stage has passed
-    pub accepts-all : verdict_of (Accepted a) ≡ judged b []
+    pub accepts-all : verdict_of (Ok a) ≡ judged b []
     unfolding judged first_refusal
     accepts-all = ap accepted (sym all-passed.1)
 
 -- ---- one stage before others
 
 module _ (b : List ℕ) (k : ℕ) (ss : List Stage) where
-  pub fails-equal : (m n : ℕ) → (m ≡ n → ⊥) → judged b (stage k (unless (eqb m n)) ∷ ss) ≡ refused (refusal k 0)
-  unfolding judged first_refusal
-  fails-equal m n h = rw (ne_eqb m n h)
-
-  pub passes-equal : (m n : ℕ) → m ≡ n → judged b (stage k (unless (eqb m n)) ∷ ss) ≡ judged b ss
-  unfolding judged first_refusal
-  passes-equal m n h = rw (eq-eqb m n h)
-
   pub fails-test : {x y : Bool} → x ≡ y → x ≡ false → judged b (stage k (unless y) ∷ ss) ≡ refused (refusal k 0)
   unfolding judged first_refusal
   fails-test e h = rw (← e, h)
@@ -96,33 +105,37 @@ module _ (b : List ℕ) (k : ℕ) (ss : List Stage) where
   unfolding judged first_refusal
   passes-test e h = rw (← e, h)
 
-  pub fails-first : (is : List ℕ) {x : Found} {p : ℕ} → x ≡ first_of is → x ≡ At p → judged b (stage k is ∷ ss) ≡ refused (refusal k p)
+  -- as the code refuses what fails a test
+  pub test-fails : {r : Refusal} {x y : Bool} → x ≡ y → (x ≡ false) × (r ≡ refusal k 0) → refused r ≡ judged b (stage k (unless y) ∷ ss)
+  test-fails e h = ap refused h.1 ∙ sym (fails-test e h.0)
+
+  pub fails-first : (is : List ℕ) {x : code.Option ℕ} {p : ℕ} → x ≡ first_of is → x ≡ Some p → judged b (stage k is ∷ ss) ≡ refused (refusal k p)
   unfolding judged first_refusal
   fails-first is e d = rw (found-fails is e d k (first_refusal ss))
 
-  pub passes-first : (is : List ℕ) {x : Found} → x ≡ first_of is → x ≡ Nothing → judged b (stage k is ∷ ss) ≡ judged b ss
+  pub passes-first : (is : List ℕ) {x : code.Option ℕ} → x ≡ first_of is → x ≡ None → judged b (stage k is ∷ ss) ≡ judged b ss
   unfolding judged first_refusal
   passes-first is e d = rw (found_none is e d)
 
 -- ---- stage 8
 
-module _ (b : List ℕ) (xs : List Stage) {x : Found} (e : refused_at x ≡ first_refusal xs) where
-  pub fails-marks : {p : ℕ} → x ≡ At p → judged b xs ≡ refused (refusal 8 p)
+module _ (b : List ℕ) (xs : List Stage) {x : code.Option ℕ} (e : refused_at x ≡ first_refusal xs) where
+  pub fails-marks : {p : ℕ} → x ≡ Some p → judged b xs ≡ refused (refusal 8 p)
   unfolding judged
   fails-marks h = ap (λ (o : Option Refusal). verdict o (announced b)) (sym e ∙ ap refused_at h)
 
-  pub passes-marks : x ≡ Nothing → judged b xs ≡ judged b []
+  pub passes-marks : x ≡ None → judged b xs ≡ judged b []
   unfolding judged first_refusal
   passes-marks h = ap (λ (o : Option Refusal). verdict o (announced b)) (sym e ∙ ap refused_at h)
 
 -- ---- the last stage: room for the announced outputs, as the code has them
 
-module _ (b : List ℕ) (xs : List Stage) {x : Checked} (e : verdict_of x ≡ judged b xs) {a : Announced} (h : x ≡ Accepted a) (o : List ℕ) {y : Bool} (r : y ≡ leb a.outputs (length o / record_bytes)) where
+module _ (b : List ℕ) (xs : List Stage) {x : Result Announced Code.Refusal} (e : verdict_of x ≡ judged b xs) {a : Announced} (h : x ≡ Ok a) (o : List ℕ) {y : Bool} (r : y ≡ leb (0 + a.outputs) (length o / record_bytes)) where
   same-room : y ≡ leb (announced b).outputs (length o / record_bytes)
-  same-room = r ∙ ap (λ (n : Rules.Announced). leb n.outputs (length o / record_bytes)) (sym (all-passed b xs e h).1)
+  same-room = rw (zero-add a.outputs) at r ∙ ap (λ (n : Rules.Announced). leb n.outputs (length o / record_bytes)) (sym (all-passed b xs e h).1)
 
-  pub fails-room : y ≡ false → judged b (room_stage (announced b).outputs o ∷ []) ≡ refused (refusal 11 0)
-  fails-room = fails-test b 11 [] same-room
+  pub room-fails : {q : Refusal} → (y ≡ false) × (q ≡ refusal 11 0) → refused q ≡ judged b (room_stage (announced b).outputs o ∷ [])
+  room-fails = test-fails b 11 [] same-room
 
   pub passes-room : y ≡ true → judged b (room_stage (announced b).outputs o ∷ []) ≡ judged b []
   passes-room = passes-test b 11 [] same-room
@@ -132,5 +145,5 @@ module _ (b : List ℕ) (xs : List Stage) {x : Checked} (e : verdict_of x ≡ ju
 pub standing-first : (b m : List ℕ) (v : List ℤ) (ys : List Stage) → judged b (table_stages b ++ (marks_stages b m ++ (vars_stage v ∷ ys))) ≡ judged b (standing_stages b m v ++ ys)
 standing-first b m v ys = ap (judged b) (sym (append_assoc (table_stages b) (marks_stages b m ++ (vars_stage v ∷ [])) ys ∙ ap (λ (l : List Stage). table_stages b ++ l) (append_assoc (marks_stages b m) (vars_stage v ∷ []) ys)))
 
-pub low-place : {x : Found} {p : ℕ} → x ≡ At p → Low x → p < 4294967296
+pub low-place : {x : code.Option ℕ} {p : ℕ} → x ≡ Some p → Low x → p < 2 ^ 32
 low-place e h = rw e at h

@@ -1,7 +1,10 @@
 -- A list of events: what is held after i of them stands for what the rules took, and what is left is what the rules have left.
 -- Assumes nothing.
+use Rattle.std.specs.Prelude.{Result, Ok, Some, None, IfSome}
+use Rattle.std.specs.Prelude as code
+use Rattle.std.specs.List.{list_all}
 use mathlib.Core.Path.{◌≡◌, refl, sym, ap, subst, ◌∙◌}
-use mathlib.Core.Bool.{Bool, true, false, ◌&&◌}
+use mathlib.Core.Bool.{Bool, true, false}
 use mathlib.Core.List.{List, [], ◌∷◌}
 use mathlib.Core.Option.{Option, none, some}
 use Prim.Native.Nat.{ℕ, zero, suc, ◌+◌, ◌-◌, ◌*◌, ◌/◌, ◌≤◌, ◌<◌, max}
@@ -9,35 +12,43 @@ use native.Mathlib.Numerals.{add-one}
 use native.Mathlib.Omega.{arith}
 use lib.Dec.{leb, ltb}
 use lib.IntN.{ℤ}
-use lib.ListN.{length, get_or, set}
-use borrow.Author.Tests.{leb-false, leb-true, le-ltb, lt-ltb, ltb-false, ltb-true}
+use lib.ListN.{length}
+use borrow.Author.Tests.{leb-false, leb-true, le-ltb, lt-ltb, ltb-false}
 use Rattle.rules.specs.Stages.{Refusal, first_refusal, refusal, stage}
-use Rattle.rules.specs.Limits.{list_too_long, most_list_bytes, most_records, record_bytes, top_total}
+use Rattle.rules.specs.Limits as Rules
+use Rattle.rules.specs.Limits.{list_too_long, most_list_bytes, record_bytes, top_total}
 use Rattle.rules.specs.Table.{kind_at, number_at}
-use Rattle.rules.specs.Check.{announced}
-use Rattle.rules.specs.Calls.{Lent, Outcome, Sent, Taken, answers, none_taken, onto, take_event}
+use Rattle.rules.specs.Check.{announced, table_stages}
+use Rattle.rules.specs.Marks.{marks_stages}
+use Rattle.rules.specs.Calls.{Lent, Outcome, Sent, Taken, answers, none_taken, take_event}
 use Rattle.rules.specs.Lists.{list_call, list_fails, sent_from, take_events}
 use Rattle.theory.specs.Logic.{clash}
 use Rattle.theory.specs.Stages.{next}
 use Rattle.theory.specs.Round.{react}
 use Rattle.table.specs.Places.{tree_of}
-use Rattle.memory.specs.Arrays.{arrays}
-use Rattle.acceptance.specs.declared.Refusal as Code
+use Rattle.memory.specs.Acts.{arrays_of}
+use Rattle.acceptance.specs.Verdicts.{verdict_of}
+use Rattle.acceptance.specs.declared.Announced.{Announced}
+use Rattle.table.specs.Refusing.{refusal_of, stage_number}
+use Rattle.table.specs.declared.refusal.Refusal as Code
 use Rattle.walks.specs.Walks.{array_ops}
+use Rattle.walks.specs.declared.running.Running.{Running}
 use Rattle.engine.specs.Running.{most_rounds, round_of}
 use Rattle.engine.specs.declared.Rounded.{Rounded}
-use Rattle.calls.specs.declared.Answer.{Answer}
-use Rattle.calls.specs.Answers.{Ran, Uncounted, lent, refusal_number, refusal_place, sent_of}
-use Rattle.calls.specs.Holding.{Stored, stop_at}
-use Rattle.calls.specs.Stages.{run_stages}
+use Rattle.calls.specs.declared.Done.{Done}
+use Rattle.calls.specs.Answers.{Ran, lent, sent_of, stopped_refusal}
+use Rattle.calls.specs.Holding.{Resting, Stored}
+use Rattle.calls.specs.Stages.{judged, run_stages}
+use Rattle.calls.proofs.Judging.{all-passed, same-steps}
 use Rattle.calls.proofs.Passed.{passed-few}
-use Rattle.calls.proofs.Holding.{Holds, takes-event}
-use Rattle.calls.proofs.Answering.{answered, marks-sized, outputs-are, tested-passed}
+use Rattle.calls.proofs.Holding.{Holds, takes-event, valued}
+use Rattle.calls.proofs.Answering.{Did, answered, marks-sized, outputs-are, tested-passed}
 use Rattle.calls.proofs.Reacting.{Ready, loaded, ready}
 
-both : (x y : Bool) → (x && y) ≡ true → (x ≡ true) × (y ≡ true)
-both true y e = (refl, e)
-both false y e = clash (cc)
+-- no stage of a list has number 12
+pub early : (b m : List ℕ) (v : List ℤ) (es : List ℕ) → list_all (λ s. ltb s.number 12) (run_stages b m v es) ≡ true
+unfolding table_stages marks_stages
+early b m v es = refl
 
 -- ---- events taken one by one
 
@@ -83,21 +94,27 @@ module _ (b : List ℕ) (l : Lent) (es : List ℕ) where
 -- ---- the loop
 
 -- after i events
-pub record Going (b : List ℕ) (l : Lent) (es : List ℕ) (i : ℕ) (st : List ℕ) (v : List ℤ) (o c : List ℕ) (emitted highest : ℕ) : Type 0 where
+pub record Going (b : List ℕ) (l : Lent) (es : List ℕ) (i : ℕ) (run : Running) (o : List ℕ) (emitted highest : ℕ) : Type 0 where
   pub within : i ≤ length es / record_bytes
-  pub holds : Holds b l.room i (taken_first b l es i) st v o c emitted highest
+  pub holds : Holds b l.room i (taken_first b l es i) run o emitted highest
   pub ahead : take_events b l (length l.room / record_bytes) 0 (sent_from es 0 (length es / record_bytes)) (none_taken l) ≡ onward b l es i (taken_first b l es i)
   pub same-room : length o ≡ length l.room
 
-module _ (b m : List ℕ) (v₀ : List ℤ) (es o₀ : List ℕ) (p : first_refusal (run_stages b m v₀ es) ≡ none) where
+module _ (b m : List ℕ) (v₀ : List ℤ) (es o₀ : List ℕ) {x : Result Announced Code.Refusal} (j : verdict_of x ≡ judged b (run_stages b m v₀ es)) {a : Announced} (h : x ≡ Ok a) where
   abbrev all : Lent
   all = lent m v₀ o₀
 
+  list-none : first_refusal (run_stages b m v₀ es) ≡ none
+  list-none = (all-passed b (run_stages b m v₀ es) j h).0
+
+  same-outputs : a.outputs ≡ (announced b).outputs
+  same-outputs = ap (λ (n : Rules.Announced). n.outputs) (sym (all-passed b (run_stages b m v₀ es) j h).1)
+
   pub run-ready : Ready b m v₀
-  run-ready = (ready b m v₀ (stage 10 (list_fails es) ∷ []) p).0
+  run-ready = (ready b m v₀ (stage 10 (list_fails es) ∷ []) list-none).0
 
   list-passed : list_fails es ≡ []
-  list-passed = (next (stage 10 (list_fails es)) [] (ready b m v₀ (stage 10 (list_fails es) ∷ []) p).1).clean
+  list-passed = (next (stage 10 (list_fails es)) [] (ready b m v₀ (stage 10 (list_fails es) ∷ []) list-none).1).clean
 
   pub few-events : length es / record_bytes ≤ 8192
   few-events = go (ltb most_list_bytes (length es)) refl
@@ -108,72 +125,66 @@ module _ (b m : List ℕ) (v₀ : List ℤ) (es o₀ : List ℕ) (p : first_refu
           clash (cc)
       go false e = omega (arith, ltb-false most_list_bytes (length es) e)
 
-  pub going-none : length o₀ ≤ top_total → (idle : List ℕ) → length idle ≡ most_records → {st : List ℕ} → st ≡ onto m idle → {v : List ℤ} → v ≡ v₀ → Going b all es 0 st v o₀ (0 ∷ 0 ∷ []) 0 0
+  pub going-none : length o₀ ≤ top_total → {run : Running} → Resting m v₀ run → Going b all es 0 run o₀ 0 0
   unfolding taken_first
-  going-none n idle long {st} e {v} x = record {
+  going-none n t = record {
     within = omega arith;
-    holds = rw (e, x) (loaded b m v₀ o₀ run-ready n idle long);
+    holds = loaded b m v₀ o₀ run-ready n t;
     ahead = sym (all-ahead b all es);
     same-room = refl;
   }
 
-  module _ {i : ℕ} {st : List ℕ} {v : List ℤ} {o c : List ℕ} {em hi : ℕ} (g : Going b all es i st v o c em hi) where
-    made-are : get_or c 1 0 ≡ length (taken_first b all es i).outs
+  module _ {i : ℕ} {run : Running} {o : List ℕ} {em hi : ℕ} (g : Going b all es i run o em hi) where
+    made-are : run.memory.outputs ≡ length (taken_first b all es i).outs
     made-are = outputs-are b o₀ g.holds
 
-    pub made-fits : get_or c 1 0 ≤ length o / record_bytes
+    pub made-fits : run.memory.outputs ≤ length o / record_bytes
     made-fits = omega (arith, made-are, g.holds.held.outs, ap (λ n. n / record_bytes) g.same-room)
 
     pub going-few : em ≤ 8192 * most_rounds
     going-few = omega (arith, g.within, few-events, g.holds.emitted-is, g.holds.few-emitted)
 
-  module _ {i : ℕ} {st : List ℕ} {v : List ℤ} {o c : List ℕ} {em hi : ℕ} (g : Going b all es i st v o c em hi) {outputs : ℕ} (most : outputs ≡ (announced b).outputs) {x : Bool} (test : x ≡ (ltb i (length es / record_bytes) && leb (get_or c 1 0 + outputs) (length o / record_bytes))) where
-    pub more-ahead : x ≡ true → i < length es / record_bytes
-    more-ahead e = ltb-true i (length es / record_bytes) (both (ltb i (length es / record_bytes)) (leb (get_or c 1 0 + outputs) (length o / record_bytes)) (sym test ∙ e)).0
-
-    roomy : x ≡ true → length (taken_first b all es i).outs + (announced b).outputs ≤ length o₀ / record_bytes
-    roomy e =
-        omega (arith, made-are g, most, ap (λ n. n / record_bytes) g.same-room, leb-true (get_or c 1 0 + outputs) (length o / record_bytes) (both (ltb i (length es / record_bytes)) (leb (get_or c 1 0 + outputs) (length o / record_bytes)) (sym test ∙ e)).1)
-
-    -- the event at index i is taken
-    pub going_on : x ≡ true → {steps : ℕ} → steps ≡ (announced b).steps → {r : Rounded} {st' : List ℕ} {v' : List ℤ} {o' c' : List ℕ} → round_of r st' (arrays v' o' c') ≡ react array_ops (tree_of b 0) steps (kind_at es i) st (arrays (set v 0 (number_at es i)) o c) → length o' ≡ length o → {hi' : ℕ} → hi' ≡ max hi r.highest → Going b all es (i + 1) st' v' o' c' (em + r.emitted) hi'
-    unfolding taken_first
-    going_on e n {r} {st'} {v'} {o'} {c'} w s h =
-        let k : Ready b m v₀ = run-ready in
-        rw (add-one i, h) record {
-          within = omega (arith, more-ahead e);
-          holds = rw (add-one i) at (takes-event b k.table (passed-few b k.table) o₀ r st' v' o' c' i (taken_first b all es i) st v o c em hi (event_at b all es i) g.holds (roomy e) (rw n at w));
-          ahead = g.ahead ∙ one_more_lem b all es i (taken_first b all es i) (more-ahead e) (le-ltb (length o₀ / record_bytes - length (taken_first b all es i).outs) (announced b).outputs (omega (arith, roomy e)));
-          same-room = s ∙ g.same-room;
-        }
-
-    -- none is taken any more
+    -- the list, from here on
     whole : list_call b all es ≡ onward b all es i (taken_first b all es i)
     unfolding list_call
-    whole = tested-passed b (run_stages b m v₀ es) all (take_events b all (length o₀ / record_bytes) 0 (sent_from es 0 (length es / record_bytes)) (none_taken all)) p ∙ g.ahead
+    whole = tested-passed b (run_stages b m v₀ es) all (take_events b all (length o₀ / record_bytes) 0 (sent_from es 0 (length es / record_bytes)) (none_taken all)) list-none ∙ g.ahead
 
-    short : x ≡ false → ltb i (length es / record_bytes) ≡ true → ltb (length o₀ / record_bytes - length (taken_first b all es i).outs) (announced b).outputs ≡ true
-    short e d =
-        let f : leb (get_or c 1 0 + outputs) (length o / record_bytes) ≡ false = rw d at (sym test ∙ e) in
-        lt-ltb (length o₀ / record_bytes - length (taken_first b all es i).outs) (announced b).outputs
-        (omega (arith, made-are g, most, g.holds.held.outs, ap (λ n. n / record_bytes) g.same-room, leb-false (get_or c 1 0 + outputs) (length o / record_bytes) f))
-
-    module _ {q : Code.Refusal} (h : q ≡ stop_at (length es / record_bytes) i) {r : Answer} {m' : List ℕ} {v' : List ℤ} (s : Stored q.number q.place em hi st v c m r m' v') where
-      answer : (z : Option Refusal) → q.number ≡ refusal_number z → q.place ≡ refusal_place z → Uncounted (answers all z (taken_first b all es i)) r m' v' o
-      answer z a d = answered b o₀ g.holds (passed-few b run-ready.table) (omega (arith, g.within, few-events)) all refl z a d m (marks-sized b m run-ready.marks) s
-
-      ran : (z : Option Refusal) → list_call b all es ≡ answers all z (taken_first b all es i) → q.number ≡ refusal_number z → q.place ≡ refusal_place z →
-          Ran (list_call b all es) (record { answer = r; taken = i }) m' v' o
+    module _ {d : Done} {m' : List ℕ} {v' : List ℤ} (s : Stored em hi run m d m' v') where
+      -- none is taken any more, and z is refusal 12 or none
+      ran : (z : code.Option Code.Refusal) → IfSome z (λ q. stage_number q.stage ≡ 12) → list_call b all es ≡ answers all (stopped_refusal z) (taken_first b all es i) → Ran (list_call b all es) (Ok (record { done = d; taken = i; stopped = z })) m' v' o
       unfolding answers
-      ran z w a d = subst (λ (y : Outcome). Ran y (record { answer = r; taken = i }) m' v' o) (sym w) record { is = answer z a d; taken = sym (reactions-are b all es refl i (omega (arith, g.within, few-events))) }
+      ran z k w =
+          let f = answered b o₀ g.holds (passed-few b run-ready.table) (omega (arith, g.within, few-events)) all refl (stopped_refusal z) m (marks-sized b m run-ready.marks) s in
+          subst (λ (y : Outcome). Ran y (Ok (record { done = d; taken = i; stopped = z })) m' v' o) (sym w)
+          record { refused = refl; stopped = k; answer = f.answer; taken = sym (reactions-are b all es refl i (omega (arith, g.within, few-events))); marks-are = f.marks-are; vars-are = f.vars-are; room-is = f.room-is }
 
-      pub list-answers : x ≡ false → Ran (list_call b all es) (record { answer = r; taken = i }) m' v' o
-      list-answers e = go (ltb i (length es / record_bytes)) refl
-        where
-          go : (y : Bool) → ltb i (length es / record_bytes) ≡ y → Ran (list_call b all es) (record { answer = r; taken = i }) m' v' o
-          go true d =
-              let f : q ≡ record { number = 12; place = i } = rw d at h in
-              ran (some (refusal 12 i)) (whole ∙ short-here b all es i (taken_first b all es i) (ltb-true i (length es / record_bytes) d) (short e d)) (ap (λ (y : Code.Refusal). y.number) f) (ap (λ (y : Code.Refusal). y.place) f)
-          go false d =
-              let f : q ≡ record { number = 0; place = 0 } = rw d at h in
-              ran none (whole ∙ none_left b all es i (taken_first b all es i) (ltb-false i (length es / record_bytes) d)) (ap (λ (y : Code.Refusal). y.number) f) (ap (λ (y : Code.Refusal). y.place) f)
+      -- all were taken
+      pub list-over : length es / record_bytes ≤ i → Ran (list_call b all es) (Ok (record { done = d; taken = i; stopped = None })) m' v' o
+      list-over n = ran None tt (whole ∙ none_left b all es i (taken_first b all es i) n)
+
+      module _ {y : Bool} (test : y ≡ leb (run.memory.outputs + a.outputs) (length o / record_bytes)) where
+        short : y ≡ false → ltb (length o₀ / record_bytes - length (taken_first b all es i).outs) (announced b).outputs ≡ true
+        short e =
+            lt-ltb (length o₀ / record_bytes - length (taken_first b all es i).outs) (announced b).outputs
+            (omega (arith, made-are, same-outputs, g.holds.held.outs, ap (λ n. n / record_bytes) g.same-room, leb-false (run.memory.outputs + a.outputs) (length o / record_bytes) (sym test ∙ e)))
+
+        -- the room has no place for the next
+        pub list-short : y ≡ false → i < length es / record_bytes → {q : Code.Refusal} → refusal_of q ≡ refusal 12 i → Ran (list_call b all es) (Ok (record { done = d; taken = i; stopped = Some q })) m' v' o
+        list-short e n {q} f = ran (Some q) (ap (λ (z : Refusal). z.number) f) (whole ∙ short-here b all es i (taken_first b all es i) n (short e) ∙ ap (λ (z : Refusal). answers all (some z) (taken_first b all es i)) (sym f))
+
+    -- the event at index i is taken
+    module _ {y : Bool} (test : y ≡ leb (run.memory.outputs + a.outputs) (length o / record_bytes)) where
+      roomy : y ≡ true → length (taken_first b all es i).outs + (announced b).outputs ≤ length o₀ / record_bytes
+      roomy e = omega (arith, made-are, same-outputs, ap (λ n. n / record_bytes) g.same-room, leb-true (run.memory.outputs + a.outputs) (length o / record_bytes) (sym test ∙ e))
+
+      pub going_on : y ≡ true → i < length es / record_bytes → {e : ℕ} → e ≡ kind_at es i → {z : ℤ} → z ≡ number_at es i → {r : Rounded} {run' : Running} {o' : List ℕ} →
+          round_of r run' o' ≡ react array_ops (tree_of b 0) a.steps e run.states (arrays_of (valued z run).memory o) → length o' ≡ length o → {hi' : ℕ} → hi' ≡ max hi r.highest → Going b all es (i + 1) run' o' (em + r.emitted) hi'
+      unfolding taken_first
+      going_on e n k z {r} {run'} {o'} w s q =
+          let t : Ready b m v₀ = run-ready in
+          rw (add-one i, q) record {
+            within = omega (arith, n);
+            holds = rw (add-one i) at (takes-event b t.table (passed-few b t.table) o₀ r run' o' i (taken_first b all es i) run o em hi (event_at b all es i) g.holds (roomy e) (rw (same-steps b (run_stages b m v₀ es) j h, k, z) at w));
+            ahead = g.ahead ∙ one_more_lem b all es i (taken_first b all es i) n (le-ltb (length o₀ / record_bytes - length (taken_first b all es i).outs) (announced b).outputs (omega (arith, roomy e)));
+            same-room = s ∙ g.same-room;
+          }

@@ -14,12 +14,11 @@ use Rattle.rules.proofs.Products.{product-bound}
 use Rattle.theory.specs.Stages.{next}
 use Rattle.theory.specs.Walk.{walk-size}
 use Rattle.theory.proofs.Accepted.{accepted-check, accepts}
-use Rattle.table.specs.Places.{Place, tree_of}
+use Rattle.table.specs.Places.{Place, Spot, tree_of}
 use Rattle.table.specs.Found.{first_of}
 use Rattle.table.proofs.Passed as Table
 use Rattle.acceptance.proofs.Refusals.{few-loops}
 use Rattle.acceptance.proofs.Tallies.{count_most}
-use Rattle.walks.specs.Walks.{Spot}
 use Rattle.engine.specs.Running.{most_rounds}
 
 module _ (b : List ℕ) (e : first_refusal (table_stages b) ≡ none) where

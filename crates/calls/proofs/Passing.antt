@@ -1,46 +1,61 @@
--- Tests that go through a list from the front: no mark set, the events of a list.
+-- What a search over marks or events finds: no mark set; the first event that is not right, and stage 10 of the whole list.
 -- Assumes nothing.
-use Rattle.std.specs.Prelude.{if◌then◌else◌}
-use mathlib.Core.Path.{◌≡◌}
-use mathlib.Core.Bool.{true, false}
+use Rattle.std.specs.List.{list_all}
+use Rattle.std.specs.Prelude.{if◌then◌else◌, Option, None, Some}
+use mathlib.Core.Path.{◌≡◌, refl, sym, ap, ◌∙◌}
+use mathlib.Core.Bool.{Bool, true, false, ◌&&◌}
 use mathlib.Core.List.{List, [], ◌∷◌, ◌++◌}
-use Prim.Native.Nat.{ℕ, ◌+◌, ◌/◌, ◌%◌, ◌≤◌, ◌<◌}
+use Prim.Native.Nat.{ℕ, zero, suc, ◌-◌, ◌/◌, ◌%◌, ◌≤◌, ◌<◌}
 use native.Mathlib.Numerals.{add-one}
+use native.Mathlib.Omega.{arith}
 use lib.Dec.{eqb}
-use lib.ListN.{length, get_or, drop}
-use lib.Seq.{drop-cons, drop-length}
+use lib.ListN.{length}
 use borrow.Author.Tests.{eq-eqb, ne_eqb, le-ltb}
 use Rattle.rules.specs.Stages.{failing}
 use Rattle.rules.specs.Limits.{most_list_bytes, record_bytes}
 use Rattle.rules.specs.Marks.{all_zero}
 use Rattle.rules.specs.Lists.{event_right, list_fails}
+use Rattle.table.specs.Found.{first_of, or_next}
+use Rattle.table.proofs.Finding.{failing-all, failing-passes, failing-fails, failing-over, first-append}
+use Rattle.calls.specs.Stages.{First}
 
 -- ---- no mark is set
 
-module _ (m : List ℕ) (i : ℕ) where
-  pub zero-here : i < length m → get_or m i 0 ≡ 0 → all_zero (drop i m) ≡ all_zero (drop (i + 1) m)
-  unfolding all_zero
-  zero-here p e = rw (add-one i, drop-cons m i 0 p, e)
-
-  pub nonzero-here : i < length m → (get_or m i 0 ≡ 0 → ⊥) → all_zero (drop i m) ≡ false
-  unfolding all_zero
-  nonzero-here p e = rw (drop-cons m i 0 p, ne_eqb (get_or m i 0) 0 e)
-
-  pub zeros-over : i ≡ length m → all_zero (drop i m) ≡ true
-  unfolding all_zero
-  zeros-over e = rw (e, drop-length m)
+pub all_zeros : (m : List ℕ) → list_all (λ x. eqb x 0) m ≡ all_zero m
+unfolding all_zero
+all_zeros [] = refl
+all_zeros (x ∷ xs) = ap (λ (b : Bool). eqb x 0 && b) (all_zeros xs)
 
 -- ---- the events of a list
 
-module _ (es : List ℕ) where
-  abbrev wrong_events : List ℕ
-  wrong_events = failing (event_right es) 0 (length es / record_bytes)
+module _ (ok : ℕ → Bool) (n : ℕ) where
+  passes-before : (i : ℕ) → i ≤ n → ((k : ℕ) → 0 ≤ k → k < i → ok k ≡ true) → failing ok 0 n ≡ failing ok i (n - i)
+  passes-before zero h f = failing-all ok n
+  passes-before (suc i) h f =
+      passes-before i (omega arith) (λ k z l. f k z (omega arith))
+      ∙ rw (add-one i) at (failing-passes ok i n (omega arith) (f i (omega arith) (omega arith)))
 
-  pub list-wrong : length es ≤ most_list_bytes → {i : ℕ} {is : List ℕ} → wrong_events ≡ i ∷ is → list_fails es ≡ i ∷ (is ++ (if eqb (length es % record_bytes) 0 then [] else length es / record_bytes ∷ []))
-  list-wrong h e = rw (le-ltb most_list_bytes (length es) h, e)
+  pub first-fails : (r : Option ℕ) → First ok n r → r ≡ first_of (failing ok 0 n)
+  first-fails None h = sym (ap first_of (passes-before n (omega arith) h ∙ failing-over ok n n (omega arith)))
+  first-fails (Some i) h = sym (ap first_of (passes-before i (omega arith) h.3 ∙ failing-fails ok i n h.1 h.2))
 
-  pub list-broken : length es ≤ most_list_bytes → wrong_events ≡ [] → (length es % record_bytes ≡ 0 → ⊥) → list_fails es ≡ length es / record_bytes ∷ []
-  list-broken h e x = rw (le-ltb most_list_bytes (length es) h, e, ne_eqb (length es % record_bytes) 0 x)
+-- where the last record is broken
+abbrev broken : List ℕ → List ℕ
+broken es = if eqb (length es % record_bytes) 0 then [] else length es / record_bytes ∷ []
 
-  pub list_right : length es ≤ most_list_bytes → wrong_events ≡ [] → length es % record_bytes ≡ 0 → list_fails es ≡ []
-  list_right h e x = rw (le-ltb most_list_bytes (length es) h, e, eq-eqb (length es % record_bytes) 0 x)
+module _ (es : List ℕ) (short : length es ≤ most_list_bytes) (r : Option ℕ) (f : First (event_right es) (length es / record_bytes) r) where
+  all-fails : (l : List ℕ) → broken es ≡ l → first_of (list_fails es) ≡ or_next r (first_of l)
+  all-fails l e =
+      let fails : list_fails es ≡ failing (event_right es) 0 (length es / record_bytes) ++ l = rw (le-ltb most_list_bytes (length es) short, e) in
+      ap first_of fails
+      ∙ first-append (failing (event_right es) 0 (length es / record_bytes)) l
+      ∙ ap (λ (x : Option ℕ). or_next x (first_of l)) (sym (first-fails (event_right es) (length es / record_bytes) r f))
+
+  pub wrong-event : {i : ℕ} → r ≡ Some i → Some i ≡ first_of (list_fails es)
+  wrong-event e = sym (rw e at (all-fails (broken es) refl))
+
+  pub broken-last : r ≡ None → (length es % record_bytes ≡ 0 → ⊥) → Some (length es / record_bytes) ≡ first_of (list_fails es)
+  broken-last e x = sym (rw e at (all-fails (length es / record_bytes ∷ []) (rw (ne_eqb (length es % record_bytes) 0 x))))
+
+  pub none-bad : r ≡ None → length es % record_bytes ≡ 0 → None ≡ first_of (list_fails es)
+  none-bad e x = sym (rw e at (all-fails [] (rw (eq-eqb (length es % record_bytes) 0 x))))

@@ -13,7 +13,6 @@ use Rattle.rules.specs.Step.{Description, step}
 use Rattle.rules.specs.Run.{Count, Ran, faced, nothing_yet, reaction, run, start, tally}
 use Rattle.rules.specs.Calls.{Lent, Outcome, Sent, answers, join_run, none_taken, react_call, start_call, take_event}
 use Rattle.theory.proofs.Calls.{react-fine, start_fine, tested-none}
-use Rattle.calls.specs.Answers.{answer_of}
 use Rattle.calls.specs.Stages.{react_stages, start_stages}
 
 -- so many steps lead from one description to another
@@ -44,8 +43,8 @@ run-counts f d =
 
 -- the steps of an answer, of a run from d
 pub record Counts (o : Outcome) (most : ℕ) (d d' : Description) : Type 0 where
-  pub transitions : Transitions (answer_of o).steps d d'
-  pub bounded : (answer_of o).steps ≤ most
+  pub transitions : Transitions o.answer.steps d d'
+  pub bounded : o.answer.steps ≤ most
 
 zero-first : (n : ℕ) → n ≡ 0 + n
 zero-first n = omega arith

@@ -1,13 +1,14 @@
 -- The stages that a call tests, and their verdict.
-use Rattle.std.specs.Prelude.{List, [], ◌∷◌, ◌++◌, ℕ, ◌<◌, ℤ, pos}
-use Rattle.rules.specs.Stages.{Stage, first_refusal}
+use Rattle.std.specs.Prelude.{List, [], ◌∷◌, ◌++◌, ◌≡◌, ℕ, ◌≤◌, ◌<◌, ◌^◌, Bool, true, false, ℤ, pos, Option, None, Some, MatchOption, Result, MatchResult}
+use Rattle.rules.specs.Stages.{Stage, first_refusal, refusal}
 use Rattle.rules.specs.Check.{Verdict, verdict, announced, table_stages}
 use Rattle.rules.specs.Marks.{marks_stages}
 use Rattle.rules.specs.Calls.{vars_stage}
 use Rattle.rules.specs.Calls as Rules
 use Rattle.rules.specs.Lists.{list_stages}
-use Rattle.table.specs.declared.Found.{Found}
-use Rattle.table.specs.declared.Found.TheVariants.{At, Nothing}
+use Rattle.table.specs.Refusing.{stage_number, refusal_of}
+use Rattle.table.specs.declared.refusal.Stage as Code
+use Rattle.table.specs.declared.refusal.Refusal.{Refusal}
 use Rattle.calls.specs.Answers.{lent, sent_of}
 
 -- refused by the first stage that fails, else accepted with the announced numbers
@@ -29,7 +30,15 @@ run_stages b m v es = list_stages b (lent m v []) es
 abbrev pub standing_stages : List ℕ → List ℕ → List ℤ → List Stage
 standing_stages b m v = table_stages b ++ (marks_stages b m ++ (vars_stage v ∷ []))
 
+-- passed, or refused by this stage at place 0
+abbrev pub Tested : Code.Stage → Bool → Result (Unit {0}) Refusal → Type 0
+Tested k passes r = MatchResult r (λ x. passes ≡ true) (λ q. (passes ≡ false) × (refusal_of q ≡ refusal (stage_number k) 0))
+
+-- the first of the numbers below n that fails a test
+abbrev pub First : (ℕ → Bool) → ℕ → Option ℕ → Type 0
+First ok n r = MatchOption r ((k : ℕ) → 0 ≤ k → k < n → ok k ≡ true) (λ i. (0 ≤ i) × (i < n) × (ok i ≡ false) × ((k : ℕ) → 0 ≤ k → k < i → ok k ≡ true))
+
 -- a place that was found is small
-abbrev pub Low : Found → Type 0
-Low (At i) = i < 4294967296
-Low Nothing = Unit {0}
+abbrev pub Low : Option ℕ → Type 0
+Low (Some i) = i < 2 ^ 32
+Low None = Unit {0}

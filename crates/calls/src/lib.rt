@@ -9,23 +9,22 @@ mod stages;
 pub use list::run_list;
 pub use one::{react, start};
 pub use stages::{first_bad, marks_stages};
+use table::Refusal;
 
-// Number and place of the refusal, 0 and 0 for none; finished 1 or 0; the counts.
-#[repr(C)]
-#[derive(Drop)]
-pub struct Answer {
-    pub refused: u32,
-    pub place: u32,
-    pub finished: u32,
+// What a call that is not refused says: is no mark set any more, and the counts.
+#[derive(Clone, Copy, Debug, PartialEq, Eq)]
+pub struct Done {
+    pub finished: bool,
     pub highest: u32,
     pub steps: u64,
     pub emitted: u64,
     pub outputs: u64,
 }
 
-// The answer of a list, and how many of its events were taken.
-#[derive(Drop)]
+// What a list came to: the counts of the events that were taken, how many those are, and refusal 12 at the first that was not.
+#[derive(Clone, Copy, Debug, PartialEq, Eq)]
 pub struct Listed {
-    pub answer: Answer,
+    pub done: Done,
     pub taken: u64,
+    pub stopped: Option<Refusal>,
 }

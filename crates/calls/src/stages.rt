@@ -1,5 +1,5 @@
 // What a call tests before it runs: stages 1 to 11, and those of a list.
-ghost use Rattle.std.specs.Prelude.{◌≡◌, ◌++◌, ◌<◌, ◌/◌, leb, length};
+ghost use Rattle.std.specs.Prelude.{◌≡◌, ◌++◌, ◌+◌, ◌<◌, ◌≤◌, ◌/◌, leb, length};
 ghost use Rattle.rules.specs.Stages.{within};
 ghost use Rattle.rules.specs.Limits.{record_bytes, most_name};
 ghost use Rattle.rules.specs.Check.{table_stages};
@@ -7,96 +7,88 @@ ghost use Rattle.rules.specs.Marks.{marks_stages};
 ghost use Rattle.rules.specs.Lists.{event_right, list_fails};
 ghost use Rattle.acceptance.specs.Verdicts.{verdict_of};
 ghost use Rattle.table.specs.Found.{first_of};
-ghost use Rattle.calls.specs.Stages.{judged, start_stages, standing_stages, react_stages, run_stages, Low};
+ghost use Rattle.calls.specs.Stages.{judged, start_stages, standing_stages, react_stages, run_stages, First, Low, Tested};
 
-use acceptance::{Checked, refused};
+use acceptance::Announced;
 use rules::Limits;
-use table::Found;
+use table::{Refusal, Stage};
 
-fn has_room(outputs: u32, out: &[u8]) -> bool
-    ensures { result ≡ leb outputs (length out.now / record_bytes) }
+// Room for so many outputs behind those made.
+pub fn has_room(made: u64, outputs: u32, out: &[u8]) -> bool
+    requires { made ≤ length out.now / record_bytes }
+    ensures { result ≡ leb (made + outputs) (length out.now / record_bytes) }
 {
-    outputs as usize <= out.len() / Limits::RECORD_BYTES
+    made + u64::from(outputs) <= (out.len() / Limits::RECORD_BYTES) as u64
 }
 
 fn is_event(event: u32) -> bool
     ensures { result ≡ within 1 most_name event }
 {
-    if event < 1 {
-        return false;
-    }
-    event as usize <= Limits::NAME
+    event >= 1 && event as usize <= Limits::NAME
 }
 
-pub fn start_stages(table: &[u8], marks: &[u8], vars: &[i32], out: &[u8]) -> Checked
+// A test of the whole: what fails it is refused at place 0.
+fn test(stage: Stage, passes: bool) -> Result<(), Refusal>
+    ensures { Tested stage passes result }
+{
+    if passes {
+        Ok(())
+    } else {
+        Err(Refusal::at(stage, 0))
+    }
+}
+
+pub fn start_stages(
+    table: &[u8],
+    marks: &[u8],
+    vars: &[i32],
+    out: &[u8],
+) -> Result<Announced, Refusal>
     ensures { verdict_of result ≡ judged table.now (start_stages table.now marks.now vars.now out.now) }
 {
-    let checked = acceptance::check(table);
-    match checked {
-        Checked::Refused(refusal) => Checked::Refused(refusal),
-        Checked::Accepted(announced) => {
-            if marks.len() != table.len() / Limits::RECORD_BYTES {
-                return refused(8, 0);
-            }
-            if vars.len() != Limits::VARIABLES {
-                return refused(9, 0);
-            }
-            if !has_room(announced.outputs, out) {
-                return refused(11, 0);
-            }
-            Checked::Accepted(announced)
-        }
-    }
+    let announced = acceptance::check(table)?;
+    test(
+        Stage::Marks,
+        marks.len() == table.len() / Limits::RECORD_BYTES,
+    )?;
+    test(Stage::Variables, vars.len() == Limits::VARIABLES)?;
+    test(Stage::Room, has_room(0, announced.outputs, out))?;
+    Ok(announced)
 }
 
 // Stages 1 to 8.
-pub fn marks_stages(table: &[u8], marks: &[u8]) -> Checked
+pub fn marks_stages(table: &[u8], marks: &[u8]) -> Result<Announced, Refusal>
     ensures { verdict_of result ≡ judged table.now (table_stages table.now ++ marks_stages table.now marks.now) }
 {
-    let checked = acceptance::check(table);
-    match checked {
-        Checked::Refused(refusal) => Checked::Refused(refusal),
-        Checked::Accepted(announced) => {
-            if let Found::At(place) = marks::marks_refused(table, marks) {
-                return refused(8, place);
-            }
-            Checked::Accepted(announced)
-        }
+    let announced = acceptance::check(table)?;
+    if let Some(place) = marks::marks_refused(table, marks) {
+        return Err(Refusal::at(Stage::Marks, place));
     }
+    Ok(announced)
 }
 
 // Stages 1 to 9 of a reaction or a list.
-fn standing_stages(table: &[u8], marks: &[u8], vars: &[i32]) -> Checked
+fn standing_stages(table: &[u8], marks: &[u8], vars: &[i32]) -> Result<Announced, Refusal>
     ensures { verdict_of result ≡ judged table.now (standing_stages table.now marks.now vars.now) }
 {
-    let checked = marks_stages(table, marks);
-    match checked {
-        Checked::Refused(refusal) => Checked::Refused(refusal),
-        Checked::Accepted(announced) => {
-            if vars.len() != Limits::VARIABLES {
-                return refused(9, 0);
-            }
-            Checked::Accepted(announced)
-        }
-    }
+    let announced = marks_stages(table, marks)?;
+    test(Stage::Variables, vars.len() == Limits::VARIABLES)?;
+    Ok(announced)
 }
 
-pub fn react_stages(table: &[u8], marks: &[u8], vars: &[i32], event: u32, out: &[u8]) -> Checked
+pub fn react_stages(
+    table: &[u8],
+    marks: &[u8],
+    vars: &[i32],
+    event: u32,
+    out: &[u8],
+) -> Result<Announced, Refusal>
     ensures { verdict_of result ≡ judged table.now (react_stages table.now marks.now vars.now event out.now) }
 {
-    let checked = standing_stages(table, marks, vars);
-    match checked {
-        Checked::Refused(refusal) => Checked::Refused(refusal),
-        Checked::Accepted(announced) => {
-            if !is_event(event) {
-                return refused(10, 0);
-            }
-            if !has_room(announced.outputs, out) {
-                return refused(11, 0);
-            }
-            Checked::Accepted(announced)
-        }
-    }
+    let announced = standing_stages(table, marks, vars)?;
+    test(Stage::Event, is_event(event))?;
+    test(Stage::Room, has_room(0, announced.outputs, out))?;
+    Ok(announced)
 }
 
 // Event, three zeros.
@@ -104,50 +96,45 @@ fn event_right(events: &[u8], i: usize) -> bool
     requires { i < length events.now / record_bytes }
     ensures { result ≡ event_right events.now i }
 {
-    if !is_event(events[Limits::RECORD_BYTES * i] as u32) {
-        return false;
-    }
-    if events[Limits::RECORD_BYTES * i + 1] != 0 {
-        return false;
-    }
-    if events[Limits::RECORD_BYTES * i + 2] != 0 {
-        return false;
-    }
-    events[Limits::RECORD_BYTES * i + 3] == 0
+    let at = Limits::RECORD_BYTES * i;
+    is_event(u32::from(events[at])) && events[at + 1..at + 4] == [0, 0, 0]
+}
+
+// The first event that is not right.
+fn first_wrong(events: &[u8]) -> Option<usize>
+    ensures { First (event_right events.now) (length events.now / record_bytes) result }
+{
+    (0..events.len() / Limits::RECORD_BYTES).find(|i| !event_right(events, *i))
 }
 
 // The first bad record of a list, a broken last one included; 8192 for a list too long.
-pub fn first_bad(events: &[u8]) -> Found
-    ensures { (result ≡ first_of (list_fails events.now)) × Low result }
+pub fn first_bad(events: &[u8]) -> Option<usize>
+    ensures first { result ≡ first_of (list_fails events.now) }
+    ensures low { Low result }
 {
     if events.len() > Limits::LIST_BYTES {
-        return Found::At(Limits::LIST_TOO_LONG);
+        return Some(Limits::LIST_TOO_LONG);
     }
-    let whole = events.len() / Limits::RECORD_BYTES;
-    let mut i: usize = 0;
-    while i < whole {
-        if !event_right(events, i) {
-            return Found::At(i);
-        }
-        i += 1;
+    if let Some(wrong) = first_wrong(events) {
+        return Some(wrong);
     }
     if events.len() % Limits::RECORD_BYTES != 0 {
-        return Found::At(whole);
+        return Some(events.len() / Limits::RECORD_BYTES);
     }
-    Found::Nothing
+    None
 }
 
-pub fn run_stages(table: &[u8], marks: &[u8], vars: &[i32], events: &[u8]) -> Checked
+pub fn run_stages(
+    table: &[u8],
+    marks: &[u8],
+    vars: &[i32],
+    events: &[u8],
+) -> Result<Announced, Refusal>
     ensures { verdict_of result ≡ judged table.now (run_stages table.now marks.now vars.now events.now) }
 {
-    let checked = standing_stages(table, marks, vars);
-    match checked {
-        Checked::Refused(refusal) => Checked::Refused(refusal),
-        Checked::Accepted(announced) => {
-            if let Found::At(place) = first_bad(events) {
-                return refused(10, place);
-            }
-            Checked::Accepted(announced)
-        }
+    let announced = standing_stages(table, marks, vars)?;
+    if let Some(place) = first_bad(events) {
+        return Err(Refusal::at(Stage::Event, place));
     }
+    Ok(announced)
 }

@@ -4,73 +4,97 @@ use Rattle.std.specs.Prelude.{if◌then◌else◌}
 use mathlib.Core.Path.{◌≡◌, refl, sym, ap, ◌∙◌}
 use mathlib.Core.Bool.{Bool, true}
 use mathlib.Core.List.{List}
-use Prim.Native.Nat.{ℕ, zero, suc, ◌+◌, ◌-◌, ◌<◌}
+use mathlib.Core.Logic.{◌⊎◌, inl, inr}
+use Prim.Native.Nat.{ℕ, zero, suc, ◌+◌, ◌-◌, ◌≤◌, ◌<◌}
 use native.Mathlib.Omega.{arith}
-use lib.Dec.{ltb}
+use lib.Dec.{eqb, ltb}
 use lib.ListN.{get_or}
-use Rattle.rules.specs.Tree.{Tree, and, or}
-use Rattle.rules.specs.Table.{kind_at, second_at}
-use Rattle.theory.specs.State.{How, Walk, walk, exec, resume_if, resume_seq, resume_loop, resume, still}
+use Rattle.rules.specs.Tree.{Tree, Par, par}
+use Rattle.rules.specs.Table.{second_at}
+use Rattle.theory.specs.State.{How, Walk, walk, exec, resume_if, resume_seq, resume_loop, resume_both, resume_held, resume, still}
+use Rattle.theory.specs.Frame.{place_of, Laid, left-kept}
+use Rattle.theory.specs.Kept.{resume-kept}
 use Rattle.theory.specs.Round.{turn_of, event_of, heard, heard_of, onward}
-use Rattle.theory.specs.Part.{onward-runs, Stays, past_left, par_goes_on, goes_on, part-still, part-goes-on, part_stays}
-use Rattle.table.specs.Places.{Place, tree_of, Node, a_nop, an_act, an_await, an_emit, a_break, an_if, a_seq, a_loop, an_every, a_par, a_fin}
+use Rattle.theory.specs.Part.{onward-runs, Stays, stays-waiting, stays-ringing, past_left, par_goes_on, goes_on, part-still, part-goes-on, part_stays}
+use Rattle.table.specs.Named.{children, par_of, Stands}
+use Rattle.table.specs.declared.kind.Par as code
+use Rattle.table.specs.declared.kind.Kind.{Kind}
+use Rattle.table.specs.declared.kind.Kind.TheVariants as kind
+use Rattle.table.specs.Places.{Spot, tree_of}
 use Rattle.table.proofs.Places.{next_place}
-use Rattle.table.proofs.Trees.{node_at, tree-kind}
 use Rattle.table.proofs.Laid.{place_at, laid-at}
 use Rattle.memory.specs.Arrays.{Arrays}
-use Rattle.walks.specs.Walks.{Spot, array_ops, par_kind, par_of}
-use Rattle.walks.proofs.Spots.{children, par-children, tree-par}
+use Rattle.walks.specs.declared.running.How as walked
+use Rattle.walks.specs.declared.running.How.TheVariants.{Waiting, Ringing}
+use Rattle.walks.specs.Walks.{array_ops, how_of}
 use Rattle.engine.specs.Parts.{Along, Path, Climbs}
 
 -- ---- by the kind of the construct
 
-module _ (b : List ℕ) (i : ℕ) (p : Place b i) (n k : ℕ) (r : Walk Arrays) where
-  pub goes-on-if : kind_at b i ≡ 12 → goes_on array_ops n k r (tree_of b i) ≡ (if ltb k (second_at b i) then resume_if array_ops r.how r (resume array_ops n (tree_of b (second_at b i))) else r)
-  unfolding goes_on
-  goes-on-if e = rw (tree-kind b i p 12 e, place_at b (second_at b i) (next_place b i p (children 12 e tt)))
+module _ (b : List ℕ) (i : ℕ) (p : Spot b i) where
+  -- where the right of a construct stands
+  second-place : {k : Kind} → Stands b i k → 2 ≤ children k → place_of (tree_of b (second_at b i)) ≡ second_at b i
+  second-place s c = place_at b (second_at b i) (next_place b i p.place (omega (arith, s.children)))
 
-  pub goes-on-seq : kind_at b i ≡ 13 → goes_on array_ops n k r (tree_of b i) ≡ (if ltb k (second_at b i) then resume_seq array_ops r.how r (resume array_ops n (tree_of b (second_at b i))) (exec array_ops n (tree_of b (second_at b i))) else r)
-  unfolding goes_on
-  goes-on-seq e = rw (tree-kind b i p 13 e, place_at b (second_at b i) (next_place b i p (children 13 e tt)))
+  module _ (n k : ℕ) (r : Walk Arrays) where
+    pub goes-on-if : Stands b i kind.If → goes_on array_ops n k r (tree_of b i) ≡ (if ltb k (second_at b i) then resume_if array_ops r.how r (resume array_ops n (tree_of b (second_at b i))) else r)
+    unfolding goes_on
+    goes-on-if s = rw (s.tree, second-place s (omega arith))
 
-  pub goes-on-loop : kind_at b i ≡ 14 → goes_on array_ops n k r (tree_of b i) ≡ resume_loop array_ops r.how r (exec array_ops n (tree_of b (i + 1)))
-  unfolding goes_on
-  goes-on-loop e = rw (tree-kind b i p 14 e)
+    pub goes-on-seq : Stands b i kind.Sequence → goes_on array_ops n k r (tree_of b i) ≡ (if ltb k (second_at b i) then resume_seq array_ops r.how r (resume array_ops n (tree_of b (second_at b i))) (exec array_ops n (tree_of b (second_at b i))) else r)
+    unfolding goes_on
+    goes-on-seq s = rw (s.tree, second-place s (omega arith))
 
-  pub goes-on-par : (c : Bool) → kind_at b i ≡ par_kind c → goes_on array_ops n k r (tree_of b i) ≡ (
-      if ltb k (second_at b i)
-      then par_goes_on array_ops n i (par_of c) (tree_of b (i + 1)) (tree_of b (second_at b i)) r
-      else past_left array_ops (par_of c) (tree_of b (i + 1)) r.how r (resume array_ops n (tree_of b (i + 1)))
-      )
-  unfolding goes_on
-  goes-on-par c e = rw (tree-par b i p c e, place_at b (second_at b i) (next_place b i p (par-children c e)))
+    pub goes-on-loop : Stands b i kind.Loop → goes_on array_ops n k r (tree_of b i) ≡ resume_loop array_ops r.how r (exec array_ops n (tree_of b (i + 1)))
+    unfolding goes_on
+    goes-on-loop s = rw s.tree
 
-  pub goes-on-rest : (kind_at b i ≡ 12 → ⊥) → (kind_at b i ≡ 13 → ⊥) → (kind_at b i ≡ 14 → ⊥) → (kind_at b i ≡ 17 → ⊥) → (kind_at b i ≡ 18 → ⊥) → goes_on array_ops n k r (tree_of b i) ≡ r
-  unfolding goes_on
-  goes-on-rest n2 n3 n4 n7 n8 = go (node_at b i p)
-    where
-      go : {x : Tree} → Node b i x → goes_on array_ops n k r x ≡ r
-      go (a_nop e) = refl
-      go (an_act a e) = refl
-      go (an_await s e) = refl
-      go (an_emit e) = refl
-      go (a_break e) = refl
-      go (an_if e) = absurd (n2 e)
-      go (a_seq e) = absurd (n3 e)
-      go (a_loop e) = absurd (n4 e)
-      go (an_every s e) = refl
-      go (a_par and e) = absurd (n7 e)
-      go (a_par or e) = absurd (n8 e)
-      go (a_fin e) = refl
+    pub goes-on-par : {o : code.Par} → Stands b i (kind.Par o) → goes_on array_ops n k r (tree_of b i) ≡ (
+        if ltb k (second_at b i)
+        then par_goes_on array_ops n i (par_of o) (tree_of b (i + 1)) (tree_of b (second_at b i)) r
+        else past_left array_ops (par_of o) (tree_of b (i + 1)) r.how r (resume array_ops n (tree_of b (i + 1)))
+        )
+    unfolding goes_on
+    goes-on-par s = rw (s.tree, second-place s (omega arith))
+
+    pub goes-on-rest : (x : Kind) → Stands b i x → (x ≡ kind.If → ⊥) → (x ≡ kind.Sequence → ⊥) → (x ≡ kind.Loop → ⊥) → ((o : code.Par) → x ≡ kind.Par o → ⊥) → goes_on array_ops n k r (tree_of b i) ≡ r
+    unfolding goes_on
+    goes-on-rest kind.Nothing s x y z w = rw s.tree
+    goes-on-rest (kind.Act a) s x y z w = rw s.tree
+    goes-on-rest (kind.Await a) s x y z w = rw s.tree
+    goes-on-rest kind.Emit s x y z w = rw s.tree
+    goes-on-rest kind.Break s x y z w = rw s.tree
+    goes-on-rest kind.If s x y z w = absurd (x refl)
+    goes-on-rest kind.Sequence s x y z w = absurd (y refl)
+    goes-on-rest kind.Loop s x y z w = absurd (z refl)
+    goes-on-rest (kind.Every a) s x y z w = rw s.tree
+    goes-on-rest (kind.Par o) s x y z w = absurd (w o refl)
+    goes-on-rest kind.Fin s x y z w = rw s.tree
+
+fork-resumed : (n i : ℕ) (c : Par) (p q : Tree) (l : List ℕ) (m : Arrays) → Laid (par i c p q) → resume array_ops n (par i c p q) l m ≡ par_goes_on array_ops n i c p q (resume array_ops n p l m)
+unfolding resume Laid
+fork-resumed n i c p q l m z =
+    let r = resume array_ops n p l m in
+    ap (λ (x : ℕ). if eqb x 0 then resume_both array_ops c p q r.how r (resume array_ops n q) else resume_held array_ops n i c p r.how r (exec array_ops n q)) (sym (left-kept z.0 (resume-kept array_ops n p z.1 l m)))
+
+-- an and or or is its left resumed, and then goes on: its own state is kept by its left
+pub resume-fork : (b : List ℕ) (i : ℕ) → Spot b i → (n : ℕ) (l : List ℕ) (m : Arrays) → {o : code.Par} → Stands b i (kind.Par o) → resume array_ops n (tree_of b i) l m ≡ par_goes_on array_ops n i (par_of o) (tree_of b (i + 1)) (tree_of b (second_at b i)) (resume array_ops n (tree_of b (i + 1)) l m)
+resume-fork b i p n l m s = rw s.tree (fork-resumed n i _ _ _ l m (rw s.tree at (laid-at b i p.place)))
 
 -- ---- along the way
+
+-- a walk that waits or rings
+pub stays-from : (h : walked.How) → (h ≡ Waiting) ⊎ ((e : ℕ) × (h ≡ Ringing e)) → Stays (how_of h)
+stays-from h (inl e) = rw e stays-waiting
+stays-from h (inr e) = rw e.1 (stays-ringing e.0)
+
+-- the places above are places too
+pub along-above : (b path : List ℕ) {d : ℕ} (e : ℕ) → e ≤ d → Along b path d → Along b path e
+along-above b path e h a k g = a k (omega arith)
 
 module _ (b : List ℕ) (n : ℕ) (path : List ℕ) where
   path-less : {l : List ℕ} (d : ℕ) → Path b n l path (d + 1) → Path b n l path d
   path-less d w = record { root = w.root; each = λ e h. w.each e (omega arith) }
-
-  along-less : (d : ℕ) → Along b path (d + 1) → Along b path d
-  along-less d a e h = a e (omega arith)
 
   -- where the part at the end of the way is blocked, so is the program
   pub path-still : {l : List ℕ} (d : ℕ) → Path b n l path d → still n (tree_of b (get_or path d 0)) l ≡ true → still n (tree_of b 0) l ≡ true
@@ -86,7 +110,7 @@ module _ (b : List ℕ) (n : ℕ) (path : List ℕ) where
   path-stays {l} m {h} {l'} {m'} s (suc d) a w e =
       let q : d + 1 ≡ suc d = omega arith in
       let v = rw (← q) at w in
-      path-stays m s d (along-less d (rw (← q) at a)) (path-less d v) (part_stays array_ops n l m l' m' s (v.each d (omega arith)) (laid-at b (get_or path d 0) (a d (omega arith)).place) (rw (← q) at e))
+      path-stays m s d (along-above b path d (omega arith) a) (path-less d v) (part_stays array_ops n l m l' m' s (v.each d (omega arith)) (laid-at b (get_or path d 0) (a d (omega arith)).place) (rw (← q) at e))
 
   -- one construct more
   pub climb-step : (d : ℕ) → 0 < d → Along b path d → {w up v : Walk Arrays} → up ≡ goes_on array_ops n (get_or path d 0) w (tree_of b (get_or path (d - 1) 0)) → Climbs b path (d - 1) n up v → Climbs b path d n w v
@@ -98,6 +122,13 @@ module _ (b : List ℕ) (n : ℕ) (path : List ℕ) where
       let only = rw y at (z.each d (omega arith)) in
       let k = part-goes-on array_ops n l m only (laid-at b (get_or path d 0) (a d (omega arith)).place) in
       rw q at c l m (path-less d z) ((rw q at u) ∙ rw e (sym (k ∙ ap (λ (j : ℕ). goes_on array_ops n j (resume array_ops n (tree_of b (get_or path (suc d) 0)) l m) (tree_of b (get_or path d 0))) (place_at b (get_or path (suc d) 0) (a (suc d) (omega arith)).place))))
+
+  -- at the root, and where a walk waits or rings, nothing is left to do
+  pub climbs-root : (d : ℕ) → d ≡ 0 → (w : Walk Arrays) → Climbs b path d n w w
+  climbs-root d z w l m x e = rw (z, x.root) at e
+
+  pub climbs-stays : (d : ℕ) → Along b path d → {h : How} (l' : List ℕ) (m' : Arrays) → Stays h → Climbs b path d n (walk h l' m') (walk h l' m')
+  climbs-stays d a l' m' s l m x e = sym (path-stays m s d a x (sym e))
 
 -- ---- the round
 

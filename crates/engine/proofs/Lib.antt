@@ -1,7 +1,5 @@
--- What resume and blocked do at the tree of a place, by the kind of its record; and one turn of the round.
-pub mod Live
-pub mod Blocking
-pub mod Rounds
+-- The way down to the part that runs, what stands above it, and one turn of the round.
 pub mod Parts
-pub mod Resting
 pub mod Climbing
+pub mod Rounds
+pub mod Resting

@@ -1,78 +1,56 @@
 // An and or or whose right has not started: it waits for its turn.
-ghost use Rattle.std.specs.Prelude.{◌≡◌, ◌+◌, ◌≤◌};
-ghost use Rattle.rules.specs.Table.{kind_at, second_at};
-ghost use Rattle.theory.specs.State.{walk, exec, take_turn, resume_held};
-ghost use Rattle.table.specs.Kinds.{children_of};
-ghost use Rattle.table.specs.Places.{tree_of};
-ghost use Rattle.memory.specs.Arrays.{arrays};
-ghost use Rattle.walks.specs.Walks.{Spot, array_ops, how_of, par_kind, par_of};
+ghost use Rattle.std.specs.Prelude.{◌≡◌, ◌<◌};
+ghost use Rattle.theory.specs.State.{exec, take_turn, resume_held};
+ghost use Rattle.table.specs.Constructs.{tree};
+ghost use Rattle.table.specs.Named.{par_of};
+ghost use Rattle.memory.specs.Acts.{arrays_of};
+ghost use Rattle.walks.specs.Walks.{array_ops, how_of, left};
+ghost use Rattle.engine.specs.Forks.{left_side, right_side};
 
-use memory::tick;
-use rules::Limits;
-use table::second_at;
-use walks::How;
+use crate::fork::Fork;
+use table::{Construct, Par};
 use walks::exec::{after_right, exec};
+use walks::{How, Running};
 
-// The right of an and or or that waits for its turn.
-fn take_turn(
-    table: &[u8],
-    i: usize,
-    n: u32,
-    st: &mut [u32; Limits::RECORDS],
-    vars: &mut [i32; Limits::VARIABLES],
-    out: &mut [u8],
-    counts: &mut [u64; 2],
-) -> How
-    requires spot { Spot table.now i }
-    requires bound { 2 ≤ children_of (kind_at table.now i) }
-    ensures { walk (how_of result) st.new (arrays vars.new out.new counts.new) ≡ take_turn array_ops n i (exec array_ops n (tree_of table.now (second_at table.now i))) st.old (arrays vars.old out.old counts.old) }
+// The right of the and or or at this place, if it is its turn.
+fn take_turn(place: usize, right: Construct<'_>, n: u32, run: &mut Running, out: &mut [u8]) -> How
+    requires { place < 256 }
+    ensures { left result run.new out.new ≡ take_turn array_ops n place (exec array_ops n (tree right.entry)) run.old.states (arrays_of run.old.memory out.old) }
 {
-    if st[i] == n {
-        st[i] = 0;
-        tick(counts);
-        tick(counts);
-        let j = second_at(table, i);
-        return exec(table, j, n, st, vars, out, counts);
+    if run.states[place] == n {
+        run.states[place] = 0;
+        run.memory.tick();
+        run.memory.tick();
+        return exec(right, n, run, out);
     }
     How::Waiting
 }
 
 // After the left of an and or or whose right has not started.
-pub fn resume_held(
-    table: &[u8],
-    i: usize,
-    and: bool,
-    how: How,
-    n: u32,
-    st: &mut [u32; Limits::RECORDS],
-    vars: &mut [i32; Limits::VARIABLES],
-    out: &mut [u8],
-    counts: &mut [u64; 2],
-) -> How
-    requires spot { Spot table.now i }
-    requires i_value { kind_at table.now i ≡ par_kind and }
-    ensures { walk (how_of result) st.new (arrays vars.new out.new counts.new) ≡ resume_held array_ops n i (par_of and) (tree_of table.now (i + 1)) (how_of how) (walk (how_of how) st.old (arrays vars.old out.old counts.old)) (exec array_ops n (tree_of table.now (second_at table.now i))) }
+pub fn resume_held(fork: Fork<'_>, how: How, n: u32, run: &mut Running, out: &mut [u8]) -> How
+    ensures { left result run.new out.new ≡ resume_held array_ops n fork.entry.at.place (par_of fork.entry.par) (left_side fork.entry) (how_of how) (left how run.old out.old) (exec array_ops n (right_side fork.entry)) }
 {
+    let place = fork.at.place;
     match how {
-        How::Idle => take_turn(table, i, n, st, vars, out, counts),
+        How::Idle => take_turn(place, fork.right(), n, run, out),
         How::Ended => {
-            tick(counts);
-            if and {
-                return take_turn(table, i, n, st, vars, out, counts);
+            run.memory.tick();
+            if fork.par == Par::And {
+                return take_turn(place, fork.right(), n, run, out);
             }
-            st[i] = 0;
+            run.states[place] = 0;
             How::Ended
         }
         How::Broke => {
-            tick(counts);
-            tick(counts);
-            st[i] = 0;
+            run.memory.tick();
+            run.memory.tick();
+            run.states[place] = 0;
             How::Broke
         }
         How::Waiting => {
-            let right = take_turn(table, i, n, st, vars, out, counts);
-            after_right(table, i, and, right, st, vars, out, counts)
+            let right = take_turn(place, fork.right(), n, run, out);
+            after_right(fork.left(), fork.par, right, run, out)
         }
-        How::Ringing(event) => How::Ringing(event),
+        How::Ringing(_) => how,
     }
 }

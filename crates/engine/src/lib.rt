@@ -2,8 +2,10 @@
 #![tactic(auto)]
 
 mod climb;
+mod fork;
 mod held;
 mod part;
+mod path;
 mod rest;
 mod resume;
 mod round;
@@ -12,7 +14,7 @@ mod waiting;
 pub use round::{begin, react};
 
 // What a round left: has it come to level 0; the internal events emitted; the highest level.
-#[derive(Drop)]
+#[derive(Clone, Copy, Debug, PartialEq, Eq)]
 pub struct Rounded {
     pub grounded: bool,
     pub emitted: u64,

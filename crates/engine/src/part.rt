@@ -1,76 +1,64 @@
 // The way down from the root to the smallest construct that holds all that runs.
-ghost use Rattle.std.specs.Prelude.{◌≡◌, ◌-◌, ◌≤◌, ◌<◌, get_or, length};
-ghost use Rattle.rules.specs.Table.{records_of};
-ghost use Rattle.walks.specs.Walks.{Spot};
-ghost use Rattle.engine.specs.Parts.{idling, right_free, PartOf, Way};
+ghost use Rattle.std.specs.Prelude.{◌≡◌, ◌≤◌, ◌<◌, IfSome};
+ghost use Rattle.rules.specs.Table.{kind_at};
+ghost use Rattle.table.specs.Kinds.{children_of};
+ghost use Rattle.engine.specs.Parts.{right_free, Step, Way};
 
+use crate::path::Path;
 use rules::Limits;
-use table::kind_at;
+use table::{Construct, Kind};
+use walks::Reach;
 use walks::part::part_with;
 
-// Are all states from one place on, and before another, idle?
-pub fn all_idle(from: usize, to: usize, st: &[u32; Limits::RECORDS]) -> bool
-    requires { (from ≤ to) × (to ≤ 256) }
-    ensures { result ≡ idling st.now from (to - from) }
-{
-    let mut i = from;
-    while i < to {
-        if st[i] != 0 {
-            return false;
-        }
-        i += 1;
-    }
-    true
-}
-
-// May the right of the construct at place i, at place j, run alone?
+// May the right of the construct run alone?
 #[tactic(auto, unfolding(crate::specs::Parts::right_free))]
-fn right_free(table: &[u8], i: usize, j: usize, st: &[u32; Limits::RECORDS]) -> bool
-    requires { Spot table.now i × (i < j) × (j ≤ records_of table.now) }
-    ensures { result ≡ right_free table.now st.now i j }
+fn right_free(at: Construct<'_>, right: Construct<'_>, states: &[u32; Limits::RECORDS]) -> bool
+    requires right { at.place < right.place }
+    requires sides { 2 ≤ children_of (kind_at at.table.now at.place) }
+    ensures { result ≡ right_free at.entry.table.now states.now at.entry.place right.entry.place }
 {
-    if kind_at(table, i) < 17 {
-        return all_idle(i + 1, j, st);
+    match at.kind() {
+        Kind::Par(_) => states[at.place] == 0,
+        _ => states[at.place + 1..right.place]
+            .iter()
+            .all(|state| *state == 0),
     }
-    st[i] == 0
 }
 
-// The part of the construct at place i that runs alone, if all that runs stands from `from` on, which is behind i, and before `to`; i where none does.
-fn part_of(table: &[u8], i: usize, from: usize, to: usize, st: &[u32; Limits::RECORDS]) -> usize
-    requires { Spot table.now i × (i < from) }
-    ensures { PartOf table.now st.now from to i result }
+// The part that runs alone, if all that runs stands within the reach, below the construct.
+fn part_of<'a>(
+    at: Construct<'a>,
+    reach: Reach,
+    states: &[u32; Limits::RECORDS],
+) -> Option<Construct<'a>>
+    requires { at.place < reach.from }
+    ensures table { IfSome result (λ part. part.table.now ≡ at.entry.table.now) }
+    ensures step { IfSome result (λ part. Step at.entry.table.now states.now reach at.entry.place part.place) }
 {
-    let k = part_with(table, i, from, to);
-    if k <= i + 1 {
-        return k;
+    let part = part_with(at, reach);
+    if part.place == at.place {
+        return None;
     }
-    if right_free(table, i, k, st) {
-        return k;
+    if part.place == at.place + 1 || right_free(at, part, states) {
+        return Some(part);
     }
-    i
+    None
 }
 
-// How many steps lead down; the path has the places.
-pub fn down(
-    table: &[u8],
-    from: usize,
-    to: usize,
-    st: &[u32; Limits::RECORDS],
-    path: &mut [u16; Limits::RECORDS],
-) -> usize
-    requires { Spot table.now 0 × (get_or path.old 0 0 ≡ 0) × (length path.old ≡ 256) }
-    ensures { (result < 256) × Way table.now st.now from to path.new result }
+// How the part that runs is come to.
+pub fn down<'a>(program: Construct<'a>, reach: Reach, states: &[u32; Limits::RECORDS]) -> Path<'a>
+    requires root { program.place ≡ 0 }
+    ensures table { result.table.now ≡ program.entry.table.now }
+    ensures way { Way program.entry.table.now states.now reach result.places result.steps }
 {
-    let mut steps: usize = 0;
-    let mut i: usize = 0;
-    while i < from {
-        let k = part_of(table, i, from, to, st);
-        if k == i {
-            return steps;
-        }
-        steps += 1;
-        path[steps] = k as u16;
-        i = k;
+    let mut path = Path::new(program);
+    let mut at = program;
+    while at.place < reach.from {
+        let Some(part) = part_of(at, reach, states) else {
+            return path;
+        };
+        path.push(part);
+        at = part;
     }
-    steps
+    path
 }

@@ -1,330 +1,150 @@
 // A tree that has begun runs on; one that is idle answers so, and nothing changes.
-ghost use Rattle.std.specs.Prelude.{◌≡◌, ◌+◌};
-ghost use Rattle.rules.specs.Table.{kind_at, second_at};
-ghost use Rattle.theory.specs.State.{walk, sweep, exec, resume, resume_if, resume_seq, resume_loop, resume_both};
-ghost use Rattle.table.specs.Places.{tree_of};
-ghost use Rattle.memory.specs.Arrays.{arrays};
-ghost use Rattle.walks.specs.Walks.{Spot, array_ops, how_of, par_kind, par_of};
-ghost use Rattle.engine.specs.Running.{left_broke, RightAlone};
+ghost use Rattle.std.specs.Prelude.{◌≡◌};
+ghost use Rattle.theory.specs.State.{exec, resume, resume_if, resume_seq, resume_loop};
+ghost use Rattle.theory.specs.Part.{par_goes_on};
+ghost use Rattle.table.specs.Constructs.{tree};
+ghost use Rattle.table.specs.Named.{par_of};
+ghost use Rattle.memory.specs.Acts.{arrays_of};
+ghost use Rattle.walks.specs.Walks.{array_ops, how_of, left};
+ghost use Rattle.engine.specs.Forks.{left_side, right_side};
+ghost use Rattle.engine.specs.Running.{RightAlone};
 
+use crate::fork::Fork;
 use crate::held::resume_held;
-use crate::part::all_idle;
 use crate::waiting::{resume_await, resume_emit, resume_every, resume_fin};
-use memory::tick;
-use rules::Limits;
-use table::{children_at, kind_at, second_at, span_at};
-use walks::How;
+use memory::Memory;
+use table::{Construct, Kind, Par};
 use walks::clear::clear;
 use walks::exec::{after_body, after_right, exec};
+use walks::{How, Running};
 
 // The right of an and whose left has ended.
-fn right_alone(how: How, counts: &mut [u64; 2]) -> How
-    ensures { RightAlone how counts.old result counts.new }
+fn right_alone(how: How, memory: &mut Memory) -> How
+    ensures { RightAlone how memory.old result memory.new }
 {
     match how {
         How::Idle => How::Ended,
-        How::Ended => {
-            tick(counts);
-            How::Ended
-        }
-        How::Broke => {
-            tick(counts);
-            How::Broke
-        }
-        How::Waiting => {
-            tick(counts);
-            How::Waiting
-        }
-        How::Ringing(event) => {
-            tick(counts);
-            How::Ringing(event)
+        other => {
+            memory.tick();
+            other
         }
     }
-}
-
-// After a left that has broken: the right, at place j, is cleared.
-fn left_broke(
-    table: &[u8],
-    j: usize,
-    st: &mut [u32; Limits::RECORDS],
-    vars: &mut [i32; Limits::VARIABLES],
-    out: &mut [u8],
-    counts: &mut [u64; 2],
-) -> How
-    requires { Spot table.now j }
-    ensures { walk (how_of result) st.new (arrays vars.new out.new counts.new) ≡ left_broke (sweep array_ops (tree_of table.now j) st.old (arrays vars.old out.old counts.old)) }
-{
-    if clear(table, j, st, vars, out, counts) {
-        tick(counts);
-        tick(counts);
-        return How::Broke;
-    }
-    How::Broke
 }
 
 #[cycle(resume)]
-pub fn resume(
-    table: &[u8],
-    i: usize,
-    n: u32,
-    st: &mut [u32; Limits::RECORDS],
-    vars: &mut [i32; Limits::VARIABLES],
-    out: &mut [u8],
-    counts: &mut [u64; 2],
-) -> How
-    requires { Spot table.now i }
-    ensures { walk (how_of result) st.new (arrays vars.new out.new counts.new) ≡ resume array_ops n (tree_of table.now i) st.old (arrays vars.old out.old counts.old) }
+#[tactic(auto, unfolding(theory::specs::State::resume))]
+pub fn resume(at: Construct<'_>, n: u32, run: &mut Running, out: &mut [u8]) -> How
+    ensures { left result run.new out.new ≡ resume array_ops n (tree at.entry) run.old.states (arrays_of run.old.memory out.old) }
 {
-    let kind = kind_at(table, i);
-    match kind {
-        8 => resume_await(i, st),
-        9 => resume_await(i, st),
-        10 => resume_emit(i, n, st, counts),
-        12 => resume_if(table, i, n, st, vars, out, counts),
-        13 => resume_seq(table, i, n, st, vars, out, counts),
-        14 => resume_loop(table, i, n, st, vars, out, counts),
-        15 => resume_every(table, i, st, vars, out, counts),
-        16 => resume_every(table, i, st, vars, out, counts),
-        17 => resume_par(table, i, true, n, st, vars, out, counts),
-        18 => resume_par(table, i, false, n, st, vars, out, counts),
-        19 => resume_fin(i, st),
-        _ => How::Idle,
-    }
-}
-
-// A part of an if or a sequence: an idle one without children takes no walk.
-#[cycle(resume)]
-fn resume_part(
-    table: &[u8],
-    i: usize,
-    n: u32,
-    st: &mut [u32; Limits::RECORDS],
-    vars: &mut [i32; Limits::VARIABLES],
-    out: &mut [u8],
-    counts: &mut [u64; 2],
-) -> How
-    requires { Spot table.now i }
-    ensures { walk (how_of result) st.new (arrays vars.new out.new counts.new) ≡ resume array_ops n (tree_of table.now i) st.old (arrays vars.old out.old counts.old) }
-{
-    if children_at(table, i) == 0 {
-        if st[i] == 0 {
-            return How::Idle;
+    match at.kind() {
+        Kind::Nothing | Kind::Act(_) | Kind::Break => How::Idle,
+        Kind::Await(_) => resume_await(at.place, &mut run.states),
+        Kind::Emit => resume_emit(at.place, n, run),
+        Kind::Every(_) => resume_every(at, run, out),
+        Kind::Fin => resume_fin(at.place, &run.states),
+        Kind::If => {
+            let how = resume(at.first(), n, run, out);
+            if_goes_on(at.second(), how, n, run, out)
+        }
+        Kind::Sequence => {
+            let how = resume(at.first(), n, run, out);
+            seq_goes_on(at.second(), how, n, run, out)
+        }
+        Kind::Loop => {
+            let how = resume(at.first(), n, run, out);
+            loop_goes_on(at.first(), how, n, run, out)
+        }
+        Kind::Par(par) => {
+            let fork = Fork { at, par };
+            let how = resume(fork.left(), n, run, out);
+            fork_goes_on(fork, how, n, run, out)
         }
     }
-    resume(table, i, n, st, vars, out, counts)
-}
-
-#[cycle(resume)]
-fn resume_if(
-    table: &[u8],
-    i: usize,
-    n: u32,
-    st: &mut [u32; Limits::RECORDS],
-    vars: &mut [i32; Limits::VARIABLES],
-    out: &mut [u8],
-    counts: &mut [u64; 2],
-) -> How
-    requires spot { Spot table.now i }
-    requires i_value { kind_at table.now i ≡ 12 }
-    ensures { walk (how_of result) st.new (arrays vars.new out.new counts.new) ≡ resume array_ops n (tree_of table.now i) st.old (arrays vars.old out.old counts.old) }
-{
-    let how = resume_part(table, i + 1, n, st, vars, out, counts);
-    if_goes_on(table, i, how, n, st, vars, out, counts)
 }
 
 // After the left of an if.
 #[cycle(resume)]
-pub fn if_goes_on(
-    table: &[u8],
-    i: usize,
-    how: How,
-    n: u32,
-    st: &mut [u32; Limits::RECORDS],
-    vars: &mut [i32; Limits::VARIABLES],
-    out: &mut [u8],
-    counts: &mut [u64; 2],
-) -> How
-    requires spot { Spot table.now i }
-    requires i_value { kind_at table.now i ≡ 12 }
-    ensures { walk (how_of result) st.new (arrays vars.new out.new counts.new) ≡ resume_if array_ops (how_of how) (walk (how_of how) st.old (arrays vars.old out.old counts.old)) (resume array_ops n (tree_of table.now (second_at table.now i))) }
+pub fn if_goes_on(right: Construct<'_>, how: How, n: u32, run: &mut Running, out: &mut [u8]) -> How
+    ensures { left result run.new out.new ≡ resume_if array_ops (how_of how) (left how run.old out.old) (resume array_ops n (tree right.entry)) }
 {
     match how {
-        How::Idle => {
-            let j = second_at(table, i);
-            resume(table, j, n, st, vars, out, counts)
-        }
-        How::Ended => How::Ended,
-        How::Broke => How::Broke,
-        How::Waiting => How::Waiting,
-        How::Ringing(event) => How::Ringing(event),
+        How::Idle => resume(right, n, run, out),
+        other => other,
     }
-}
-
-#[cycle(resume)]
-fn resume_seq(
-    table: &[u8],
-    i: usize,
-    n: u32,
-    st: &mut [u32; Limits::RECORDS],
-    vars: &mut [i32; Limits::VARIABLES],
-    out: &mut [u8],
-    counts: &mut [u64; 2],
-) -> How
-    requires spot { Spot table.now i }
-    requires i_value { kind_at table.now i ≡ 13 }
-    ensures { walk (how_of result) st.new (arrays vars.new out.new counts.new) ≡ resume array_ops n (tree_of table.now i) st.old (arrays vars.old out.old counts.old) }
-{
-    let how = resume_part(table, i + 1, n, st, vars, out, counts);
-    seq_goes_on(table, i, how, n, st, vars, out, counts)
 }
 
 // After the left of a sequence.
 #[cycle(resume)]
-pub fn seq_goes_on(
-    table: &[u8],
-    i: usize,
-    how: How,
-    n: u32,
-    st: &mut [u32; Limits::RECORDS],
-    vars: &mut [i32; Limits::VARIABLES],
-    out: &mut [u8],
-    counts: &mut [u64; 2],
-) -> How
-    requires spot { Spot table.now i }
-    requires i_value { kind_at table.now i ≡ 13 }
-    ensures { walk (how_of result) st.new (arrays vars.new out.new counts.new) ≡ resume_seq array_ops (how_of how) (walk (how_of how) st.old (arrays vars.old out.old counts.old)) (resume array_ops n (tree_of table.now (second_at table.now i))) (exec array_ops n (tree_of table.now (second_at table.now i))) }
+pub fn seq_goes_on(right: Construct<'_>, how: How, n: u32, run: &mut Running, out: &mut [u8]) -> How
+    ensures { left result run.new out.new ≡ resume_seq array_ops (how_of how) (left how run.old out.old) (resume array_ops n (tree right.entry)) (exec array_ops n (tree right.entry)) }
 {
     match how {
-        How::Idle => {
-            let j = second_at(table, i);
-            resume(table, j, n, st, vars, out, counts)
-        }
+        How::Idle => resume(right, n, run, out),
         How::Ended => {
-            tick(counts);
-            let j = second_at(table, i);
-            exec(table, j, n, st, vars, out, counts)
+            run.memory.tick();
+            exec(right, n, run, out)
         }
         How::Broke => {
-            tick(counts);
+            run.memory.tick();
             How::Broke
         }
-        How::Waiting => How::Waiting,
-        How::Ringing(event) => How::Ringing(event),
+        other => other,
     }
-}
-
-#[cycle(resume)]
-fn resume_loop(
-    table: &[u8],
-    i: usize,
-    n: u32,
-    st: &mut [u32; Limits::RECORDS],
-    vars: &mut [i32; Limits::VARIABLES],
-    out: &mut [u8],
-    counts: &mut [u64; 2],
-) -> How
-    requires spot { Spot table.now i }
-    requires i_value { kind_at table.now i ≡ 14 }
-    ensures { walk (how_of result) st.new (arrays vars.new out.new counts.new) ≡ resume array_ops n (tree_of table.now i) st.old (arrays vars.old out.old counts.old) }
-{
-    let how = resume(table, i + 1, n, st, vars, out, counts);
-    loop_goes_on(table, i, how, n, st, vars, out, counts)
 }
 
 // After the body of a loop; one that has ended starts anew.
-pub fn loop_goes_on(
-    table: &[u8],
-    i: usize,
-    how: How,
-    n: u32,
-    st: &mut [u32; Limits::RECORDS],
-    vars: &mut [i32; Limits::VARIABLES],
-    out: &mut [u8],
-    counts: &mut [u64; 2],
-) -> How
-    requires spot { Spot table.now i }
-    requires i_value { kind_at table.now i ≡ 14 }
-    ensures { walk (how_of result) st.new (arrays vars.new out.new counts.new) ≡ resume_loop array_ops (how_of how) (walk (how_of how) st.old (arrays vars.old out.old counts.old)) (exec array_ops n (tree_of table.now (i + 1))) }
+pub fn loop_goes_on(body: Construct<'_>, how: How, n: u32, run: &mut Running, out: &mut [u8]) -> How
+    ensures { left result run.new out.new ≡ resume_loop array_ops (how_of how) (left how run.old out.old) (exec array_ops n (tree body.entry)) }
 {
     match how {
-        How::Idle => How::Idle,
         How::Ended => {
-            tick(counts);
-            tick(counts); // the loop starts anew
-            let again = exec(table, i + 1, n, st, vars, out, counts);
-            after_body(again, counts)
+            run.memory.tick();
+            run.memory.tick(); // the loop starts anew
+            let again = exec(body, n, run, out);
+            after_body(again, &mut run.memory)
         }
         How::Broke => {
-            tick(counts);
+            run.memory.tick();
             How::Ended
         }
-        How::Waiting => How::Waiting,
-        How::Ringing(event) => How::Ringing(event),
+        other => other,
     }
 }
 
+// After the left of an and or or.
 #[cycle(resume)]
-fn resume_par(
-    table: &[u8],
-    i: usize,
-    and: bool,
-    n: u32,
-    st: &mut [u32; Limits::RECORDS],
-    vars: &mut [i32; Limits::VARIABLES],
-    out: &mut [u8],
-    counts: &mut [u64; 2],
-) -> How
-    requires spot { Spot table.now i }
-    requires i_value { kind_at table.now i ≡ par_kind and }
-    ensures { walk (how_of result) st.new (arrays vars.new out.new counts.new) ≡ resume array_ops n (tree_of table.now i) st.old (arrays vars.old out.old counts.old) }
+pub fn fork_goes_on(fork: Fork<'_>, how: How, n: u32, run: &mut Running, out: &mut [u8]) -> How
+    ensures { left result run.new out.new ≡ par_goes_on array_ops n fork.entry.at.place (par_of fork.entry.par) (left_side fork.entry) (right_side fork.entry) (left how run.old out.old) }
 {
-    let held = st[i];
-    let how = resume(table, i + 1, n, st, vars, out, counts);
-    if held == 0 {
-        return resume_both(table, i, and, how, n, st, vars, out, counts);
+    if run.states[fork.at.place] != 0 {
+        return resume_held(fork, how, n, run, out);
     }
-    resume_held(table, i, and, how, n, st, vars, out, counts)
-}
-
-// After the left of an and or or whose right has started.
-#[cycle(resume)]
-pub fn resume_both(
-    table: &[u8],
-    i: usize,
-    and: bool,
-    how: How,
-    n: u32,
-    st: &mut [u32; Limits::RECORDS],
-    vars: &mut [i32; Limits::VARIABLES],
-    out: &mut [u8],
-    counts: &mut [u64; 2],
-) -> How
-    requires spot { Spot table.now i }
-    requires i_value { kind_at table.now i ≡ par_kind and }
-    ensures { walk (how_of result) st.new (arrays vars.new out.new counts.new) ≡ resume_both array_ops (par_of and) (tree_of table.now (i + 1)) (tree_of table.now (second_at table.now i)) (how_of how) (walk (how_of how) st.old (arrays vars.old out.old counts.old)) (resume array_ops n (tree_of table.now (second_at table.now i))) }
-{
-    let j = second_at(table, i);
+    let second = fork.right();
     match how {
-        How::Idle => resume(table, j, n, st, vars, out, counts),
-        How::Ended => {
-            if and {
-                if all_idle(j, j + span_at(table, j), st) {
-                    return How::Ended;
+        How::Idle => resume(second, n, run, out),
+        How::Ended => match fork.par {
+            Par::And => {
+                let right = resume(second, n, run, out);
+                right_alone(right, &mut run.memory)
+            }
+            Par::Or => {
+                if clear(second, run, out) {
+                    run.memory.tick();
                 }
-                let right = resume(table, j, n, st, vars, out, counts);
-                return right_alone(right, counts);
+                How::Ended
             }
-            if clear(table, j, st, vars, out, counts) {
-                tick(counts);
-                return How::Ended;
+        },
+        How::Broke => {
+            if clear(second, run, out) {
+                run.memory.tick();
+                run.memory.tick();
             }
-            How::Ended
+            How::Broke
         }
-        How::Broke => left_broke(table, j, st, vars, out, counts),
         How::Waiting => {
-            let right = resume(table, j, n, st, vars, out, counts);
-            after_right(table, i, and, right, st, vars, out, counts)
+            let right = resume(second, n, run, out);
+            after_right(fork.left(), fork.par, right, run, out)
         }
-        How::Ringing(event) => How::Ringing(event),
+        How::Ringing(_) => how,
     }
 }

@@ -1,205 +1,184 @@
 // The round: pushes and pops until level 0, the whole program resumed after each.
-ghost use Rattle.std.specs.Prelude.{◌≡◌, ◌+◌, ◌≤◌, max};
+ghost use Rattle.std.specs.Prelude.{◌≡◌, ◌+◌, ◌≤◌};
 ghost use Rattle.rules.specs.Step.{internal_event};
-ghost use Rattle.theory.specs.Round.{turn_of, event_of, heard, onward, pushed, rounds, react, begin};
-ghost use Rattle.table.specs.Places.{tree_of};
-ghost use Rattle.memory.specs.Arrays.{arrays};
+ghost use Rattle.theory.specs.Round.{turn_of, event_of, onward, pushed, rounds, react, begin};
+ghost use Rattle.table.specs.Constructs.{tree};
+ghost use Rattle.memory.specs.Acts.{arrays_of};
 ghost use Rattle.walks.specs.Listening.{Listens};
-ghost use Rattle.walks.specs.Walks.{Spot, array_ops, how_of};
+ghost use Rattle.walks.specs.Walks.{array_ops, how_of};
 ghost use Rattle.engine.specs.Parts.{AllWait, Runs};
-ghost use Rattle.engine.specs.Running.{most_rounds, round_of};
+ghost use Rattle.engine.specs.Running.{most_rounds, event_number, Named, heard_in, round_of};
 
 use crate::Rounded;
 use crate::climb::climb;
 use crate::part::down;
-use crate::rest::{behind_last, blocked, first_runs};
+use crate::rest::{blocked, running};
 use crate::resume::resume;
-use memory::tick;
-use rules::Limits;
+use table::{Construct, Source};
 use walks::exec::exec;
 use walks::wake::wake;
-use walks::{How, heard_before, heard_from};
+use walks::{How, Listeners, Reach, Running};
 
-// The event that is pending, 0 for none.
-fn event_of(how: How) -> usize
-    ensures { result ≡ event_of (how_of how) }
+// The state of a turn at a level.
+fn turn_of(level: u32) -> u32
+    requires { level ≤ most_rounds + 1 }
+    ensures { result ≡ turn_of level }
+{
+    level + 3
+}
+
+// The event that is pending; none is named 0.
+fn pending(how: How) -> Option<usize>
+    ensures event { event_number result ≡ event_of (how_of how) }
+    ensures named { Named result }
 {
     match how {
-        How::Idle => 0,
-        How::Ended => 0,
-        How::Broke => 0,
-        How::Waiting => 0,
-        How::Ringing(event) => event,
+        How::Ringing(event) if event > 0 => Some(event),
+        _ => None,
     }
 }
 
-fn larger(a: u32, b: u32) -> u32
-    ensures { result ≡ max a b }
-{
-    if a < b { b } else { a }
-}
-
-// What a round left, beside the arrays.
-fn rounded(grounded: bool, emitted: u64, highest: u32) -> Rounded
-    ensures { (result.grounded ≡ grounded) × (result.emitted ≡ emitted) × (result.highest ≡ highest) }
-{
-    Rounded {
-        grounded: grounded,
-        emitted: emitted,
-        highest: highest,
-    }
-}
-
-// The part that runs, and then what stands above it. All that runs stands from one place on and before another.
+// The part that runs, and then what stands above it. All that runs stands within the reach.
 fn run_part(
-    table: &[u8],
+    program: Construct<'_>,
     level: u32,
-    from: usize,
-    to: usize,
-    st: &mut [u32; Limits::RECORDS],
-    vars: &mut [i32; Limits::VARIABLES],
+    reach: Reach,
+    run: &mut Running,
     out: &mut [u8],
-    counts: &mut [u64; 2],
-) -> usize
-    requires spot { Spot table.now 0 }
-    requires level_bound { (level ≤ most_rounds + 1) × Runs table.now (turn_of level) st.old from to }
-    ensures { heard result st.new (arrays vars.new out.new counts.new) ≡ onward array_ops (tree_of table.now 0) level st.old (arrays vars.old out.old counts.old) }
+) -> Option<usize>
+    requires root { program.place ≡ 0 }
+    requires level_bound { level ≤ most_rounds + 1 }
+    requires runs { Runs program.table.now (turn_of level) run.old.states reach }
+    ensures left { heard_in result run.new out.new ≡ onward array_ops (tree program.entry) level run.old.states (arrays_of run.old.memory out.old) }
+    ensures named { Named result }
 {
-    if to <= from {
-        return 0;
+    if reach.to <= reach.from {
+        return None;
     }
-    let n = level + 3;
-    let mut path: [u16; Limits::RECORDS] = [0; Limits::RECORDS];
-    let steps = down(table, from, to, st, &mut path);
-    let k = path[steps] as usize;
-    if blocked(table, k, n, st) {
-        return 0;
+    let n = turn_of(level);
+    let path = down(program, reach, &run.states);
+    let part = path.end();
+    if blocked(part, n, &run.states) {
+        return None;
     }
-    let how = resume(table, k, n, st, vars, out, counts);
-    let end = climb(table, steps, &path, how, n, st, vars, out, counts);
-    event_of(end)
+    let how = resume(part, n, run, out);
+    pending(climb(&path, how, n, run, out))
 }
 
 // The whole program runs on at a level; where it is blocked, nothing is left to do.
-fn onward(
-    table: &[u8],
-    level: u32,
-    st: &mut [u32; Limits::RECORDS],
-    vars: &mut [i32; Limits::VARIABLES],
-    out: &mut [u8],
-    counts: &mut [u64; 2],
-) -> usize
-    requires spot { Spot table.now 0 }
+fn onward(program: Construct<'_>, level: u32, run: &mut Running, out: &mut [u8]) -> Option<usize>
+    requires root { program.place ≡ 0 }
     requires level_bound { level ≤ most_rounds + 1 }
-    ensures { heard result st.new (arrays vars.new out.new counts.new) ≡ onward array_ops (tree_of table.now 0) level st.old (arrays vars.old out.old counts.old) }
+    ensures left { heard_in result run.new out.new ≡ onward array_ops (tree program.entry) level run.old.states (arrays_of run.old.memory out.old) }
+    ensures named { Named result }
 {
-    let records = table.len() / Limits::RECORD_BYTES;
-    let from = first_runs(records, level + 3, st);
-    let to = behind_last(from, records, level + 3, st);
-    run_part(table, level, from, to, st, vars, out, counts)
+    let reach = running(program, turn_of(level), &run.states);
+    run_part(program, level, reach, run, out)
 }
 
 // The same at a level that a push of an internal event came to.
 #[tactic(auto, unfolding(theory::specs::Round::pushed))]
 fn pushed(
-    table: &[u8],
+    program: Construct<'_>,
     event: usize,
     level: u32,
-    awaited: &[u16; Limits::RECORDS],
-    st: &mut [u32; Limits::RECORDS],
-    vars: &mut [i32; Limits::VARIABLES],
+    listeners: &Listeners,
+    run: &mut Running,
     out: &mut [u8],
-    counts: &mut [u64; 2],
-) -> usize
-    requires spot { Spot table.now 0 }
-    requires level_bound { (level ≤ most_rounds + 1) × Listens table.now awaited.now }
-    ensures { heard result st.new (arrays vars.new out.new counts.new) ≡ pushed array_ops (tree_of table.now 0) (internal_event event) level st.old (arrays vars.old out.old counts.old) }
+) -> Option<usize>
+    requires root { program.place ≡ 0 }
+    requires level_bound { level ≤ most_rounds + 1 }
+    requires listens { Listens program.table.now listeners.now }
+    ensures left { heard_in result run.new out.new ≡ pushed array_ops (tree program.entry) (internal_event event) level run.old.states (arrays_of run.old.memory out.old) }
+    ensures named { Named result }
 {
-    let from = heard_from(false, event, awaited);
-    let to = heard_before(false, event, awaited);
-    wake(table, false, event, from, to, st);
-    onward(table, level, st, vars, out, counts)
+    let reach = listeners.reach(Source::Internal, event);
+    wake(program, Source::Internal, event, reach, &mut run.states);
+    onward(program, level, run, out)
 }
 
-// From level 1 on, with the event that is pending there (0 for none): at most so many pushes and pops.
+// From level 1 on, with the event that is pending there: at most so many pushes and pops.
 fn rounds(
-    table: &[u8],
+    program: Construct<'_>,
     most: u32,
-    first: usize,
-    awaited: &[u16; Limits::RECORDS],
-    st: &mut [u32; Limits::RECORDS],
-    vars: &mut [i32; Limits::VARIABLES],
+    first: Option<usize>,
+    listeners: &Listeners,
+    run: &mut Running,
     out: &mut [u8],
-    counts: &mut [u64; 2],
 ) -> Rounded
-    requires spot { Spot table.now 0 }
-    requires most_le_most_rounds { (most ≤ most_rounds) × Listens table.now awaited.now }
-    ensures { round_of result st.new (arrays vars.new out.new counts.new) ≡ rounds array_ops (tree_of table.now 0) most first 1 0 1 st.old (arrays vars.old out.old counts.old) }
+    requires root { program.place ≡ 0 }
+    requires most_le_most_rounds { most ≤ most_rounds }
+    requires named { Named first }
+    requires listens { Listens program.table.now listeners.now }
+    ensures { round_of result run.new out.new ≡ rounds array_ops (tree program.entry) most (event_number first) 1 0 1 run.old.states (arrays_of run.old.memory out.old) }
 {
-    let mut left = most;
     let mut event = first;
     let mut level: u32 = 1;
     let mut emitted: u64 = 0;
     let mut highest: u32 = 1;
-    while left > 0 {
-        tick(counts);
-        left -= 1;
-        if event == 0 {
+    for _ in 0..most {
+        run.memory.tick();
+        let Some(rung) = event else {
             if level == 1 {
-                return rounded(true, emitted, highest);
+                return Rounded {
+                    grounded: true,
+                    emitted,
+                    highest,
+                };
             }
             level -= 1;
-            event = onward(table, level, st, vars, out, counts);
+            event = onward(program, level, run, out);
             continue;
-        }
+        };
         level += 1;
         emitted += 1;
-        highest = larger(highest, level);
-        event = pushed(table, event, level, awaited, st, vars, out, counts);
+        highest = highest.max(level);
+        event = pushed(program, rung, level, listeners, run, out);
     }
-    rounded(false, emitted, highest)
+    Rounded {
+        grounded: false,
+        emitted,
+        highest,
+    }
 }
 
 // A reaction to an input event, pushed to level 1. All waited before, so that only those run that it woke.
 pub fn react(
-    table: &[u8],
+    program: Construct<'_>,
     event: usize,
     most: u32,
-    awaited: &[u16; Limits::RECORDS],
-    st: &mut [u32; Limits::RECORDS],
-    vars: &mut [i32; Limits::VARIABLES],
+    listeners: &Listeners,
+    run: &mut Running,
     out: &mut [u8],
-    counts: &mut [u64; 2],
 ) -> Rounded
-    requires spot { Spot table.now 0 }
-    requires most_le_most_rounds { (most ≤ most_rounds) × Listens table.now awaited.now × AllWait table.now st.old }
-    ensures { round_of result st.new (arrays vars.new out.new counts.new) ≡ react array_ops (tree_of table.now 0) most event st.old (arrays vars.old out.old counts.old) }
+    requires root { program.place ≡ 0 }
+    requires most_le_most_rounds { most ≤ most_rounds }
+    requires listens { Listens program.table.now listeners.now }
+    requires all_wait { AllWait program.table.now run.old.states }
+    ensures { round_of result run.new out.new ≡ react array_ops (tree program.entry) most event run.old.states (arrays_of run.old.memory out.old) }
 {
-    tick(counts);
-    let from = heard_from(true, event, awaited);
-    let to = heard_before(true, event, awaited);
-    wake(table, true, event, from, to, st);
-    let first = run_part(table, 1, from, to, st, vars, out, counts);
-    rounds(table, most, first, awaited, st, vars, out, counts)
+    run.memory.tick();
+    let reach = listeners.reach(Source::Input, event);
+    wake(program, Source::Input, event, reach, &mut run.states);
+    let first = run_part(program, 1, reach, run, out);
+    rounds(program, most, first, listeners, run, out)
 }
 
 // A start: the program itself begins at level 1.
 #[tactic(auto, unfolding(theory::specs::Round::begin))]
 pub fn begin(
-    table: &[u8],
+    program: Construct<'_>,
     most: u32,
-    awaited: &[u16; Limits::RECORDS],
-    st: &mut [u32; Limits::RECORDS],
-    vars: &mut [i32; Limits::VARIABLES],
+    listeners: &Listeners,
+    run: &mut Running,
     out: &mut [u8],
-    counts: &mut [u64; 2],
 ) -> Rounded
-    requires spot { Spot table.now 0 }
-    requires most_le_most_rounds { (most ≤ most_rounds) × Listens table.now awaited.now }
-    ensures { round_of result st.new (arrays vars.new out.new counts.new) ≡ begin array_ops (tree_of table.now 0) most st.old (arrays vars.old out.old counts.old) }
+    requires root { program.place ≡ 0 }
+    requires most_le_most_rounds { most ≤ most_rounds }
+    requires listens { Listens program.table.now listeners.now }
+    ensures { round_of result run.new out.new ≡ begin array_ops (tree program.entry) most run.old.states (arrays_of run.old.memory out.old) }
 {
-    tick(counts);
-    let how = exec(table, 0, 4, st, vars, out, counts);
-    let first = event_of(how);
-    rounds(table, most, first, awaited, st, vars, out, counts)
+    run.memory.tick();
+    let how = exec(program, turn_of(1), run, out);
+    rounds(program, most, pending(how), listeners, run, out)
 }

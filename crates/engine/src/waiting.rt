@@ -1,78 +1,72 @@
 // Records that wait: an await, an every, an emit that waits for its turn, a fin.
 ghost use Rattle.std.specs.Prelude.{◌≡◌, ◌+◌, ◌<◌, ◌≤◌};
 ghost use Rattle.rules.specs.Table.{kind_at};
-ghost use Rattle.theory.specs.State.{walk, resume_await, resume_fin, resume_every};
+ghost use Rattle.theory.specs.State.{resume_await, resume_fin, resume_every};
 ghost use Rattle.table.specs.Kinds.{children_of};
 ghost use Rattle.table.specs.Places.{tree_of};
-ghost use Rattle.memory.specs.Arrays.{arrays};
-ghost use Rattle.walks.specs.Walks.{Spot, array_ops, how_of};
+ghost use Rattle.memory.specs.Acts.{arrays_of};
+ghost use Rattle.walks.specs.Walks.{array_ops, left};
 ghost use Rattle.engine.specs.Running.{Rests, Emits};
 
-use memory::tick;
 use rules::Limits;
-use walks::How;
+use table::Construct;
 use walks::settle::settle;
+use walks::{How, Running};
 
-pub fn resume_await(i: usize, st: &mut [u32; Limits::RECORDS]) -> How
-    requires { i < 256 }
-    ensures { Rests (resume_await array_ops i st.old) result st.new }
+pub fn resume_await(place: usize, states: &mut [u32; Limits::RECORDS]) -> How
+    requires { place < 256 }
+    ensures { Rests (resume_await array_ops place states.old) result states.new }
 {
-    if st[i] == 0 {
-        return How::Idle;
+    match states[place] {
+        0 => How::Idle,
+        2 => {
+            states[place] = 0;
+            How::Ended
+        }
+        _ => How::Waiting,
     }
-    if st[i] == 2 {
-        st[i] = 0;
-        return How::Ended;
-    }
-    How::Waiting
 }
 
-pub fn resume_fin(i: usize, st: &mut [u32; Limits::RECORDS]) -> How
-    requires { i < 256 }
-    ensures { Rests (resume_fin array_ops i st.old) result st.new }
+pub fn resume_fin(place: usize, states: &[u32; Limits::RECORDS]) -> How
+    requires { place < 256 }
+    ensures { Rests (resume_fin array_ops place states.now) result states.now }
 {
-    if st[i] == 0 {
-        return How::Idle;
+    if states[place] == 0 {
+        How::Idle
+    } else {
+        How::Waiting
     }
-    How::Waiting
 }
 
-pub fn resume_emit(i: usize, n: u32, st: &mut [u32; Limits::RECORDS], counts: &mut [u64; 2]) -> How
-    requires { i < 256 }
-    ensures { Emits n i st.old counts.old result st.new counts.new }
+pub fn resume_emit(place: usize, n: u32, run: &mut Running) -> How
+    requires { place < 256 }
+    ensures { Emits n place run.old result run.new }
 {
-    if st[i] == 0 {
+    let state = run.states[place];
+    if state == 0 {
         return How::Idle;
     }
-    if st[i] == n {
-        st[i] = 0;
-        tick(counts);
+    if state == n {
+        run.states[place] = 0;
+        run.memory.tick();
         return How::Ended;
     }
     How::Waiting
 }
 
 // A woken every runs its body and waits again.
-pub fn resume_every(
-    table: &[u8],
-    i: usize,
-    st: &mut [u32; Limits::RECORDS],
-    vars: &mut [i32; Limits::VARIABLES],
-    out: &mut [u8],
-    counts: &mut [u64; 2],
-) -> How
-    requires spot { Spot table.now i }
-    requires bound { 1 ≤ children_of (kind_at table.now i) }
-    ensures { walk (how_of result) st.new (arrays vars.new out.new counts.new) ≡ resume_every array_ops (tree_of table.now (i + 1)) i st.old (arrays vars.old out.old counts.old) }
+pub fn resume_every(every: Construct<'_>, run: &mut Running, out: &mut [u8]) -> How
+    requires { 1 ≤ children_of (kind_at every.table.now every.place) }
+    ensures { left result run.new out.new ≡ resume_every array_ops (tree_of every.entry.table.now (every.entry.place + 1)) every.entry.place run.old.states (arrays_of run.old.memory out.old) }
 {
-    if st[i] == 0 {
-        return How::Idle;
+    match run.states[every.place] {
+        0 => How::Idle,
+        2 => {
+            run.states[every.place] = 1;
+            settle(every.first(), &mut run.memory, out);
+            run.memory.tick();
+            How::Waiting
+        }
+        _ => How::Waiting,
     }
-    if st[i] == 2 {
-        st[i] = 1;
-        settle(table, i + 1, vars, out, counts);
-        tick(counts);
-        return How::Waiting;
-    }
-    How::Waiting
 }

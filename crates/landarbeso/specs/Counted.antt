@@ -3,8 +3,8 @@ use Rattle.std.specs.Prelude.{List, ◌≡◌, ℕ, ℤ}
 use Rattle.rules.specs.Calls.{Outcome}
 use Rattle.totals.specs.declared.Totals.{Totals}
 use Rattle.totals.specs.Sum.{totals_of}
-use Rattle.calls.specs.Answers.{answer_of}
-use Rattle.calls.specs.declared.Answer.{Answer}
+use Rattle.landarbeso.specs.Answers.{answer_of}
+use Rattle.landarbeso.specs.declared.answers.Answer.{Answer}
 
 -- the whole answer and all that was lent
 pub record Meant (o : Outcome) (r : Answer) (marks : List ℕ) (vars : List ℤ) (room : List ℕ) (t : Totals) : Type 0 where

@@ -1,12 +1,15 @@
 -- Document 01's numbers and values for each case of an answer: the check, the query, the remaining program.
-use Rattle.std.specs.Prelude.{List, ◌≡◌, ℕ}
+use Rattle.std.specs.Prelude.{List, ◌≡◌, ℕ, Result, Ok, Err}
 use Rattle.rules.specs.Check.{Verdict, refused, accepted}
 use Rattle.rules.specs.Query.{Asked}
 use Rattle.rules.specs.Remaining.{Remaining}
-use Rattle.calls.specs.Answers.{refusal_number, refusal_place}
-use Rattle.landarbeso.specs.declared.CheckedNumbers.{CheckedNumbers}
-use Rattle.landarbeso.specs.declared.Queried.{Queried}
-use Rattle.landarbeso.specs.declared.Written.{Written}
+use Rattle.table.specs.Refusing.{stage_number}
+use Rattle.table.specs.declared.refusal.Refusal.{Refusal}
+use Rattle.marks.specs.declared.query.Asked as Code
+use Rattle.landarbeso.specs.Answers.{refusal_number, refusal_place}
+use Rattle.landarbeso.specs.declared.numbers.CheckedNumbers.{CheckedNumbers}
+use Rattle.landarbeso.specs.declared.numbers.Queried.{Queried}
+use Rattle.landarbeso.specs.declared.numbers.Written.{Written}
 
 -- refused 0 and the announced numbers, or number and place of the refusal with zeros
 abbrev pub numbers_of : Verdict → CheckedNumbers
@@ -23,3 +26,13 @@ written_of a = record { refused = refusal_number a.refused; place = refusal_plac
 pub record Remains (a : Remaining) (r : Written) (buffer : List ℕ) : Type 0 where
   pub answer : r ≡ written_of a
   pub buffer-is : buffer ≡ a.buffer
+
+-- ---- what was asked or written, or refused, as C has it
+
+abbrev pub flat_asked : Result Code.Asked Refusal → Queried
+flat_asked (Ok a) = record { refused = 0; place = 0; number = a.number; lowest = a.lowest }
+flat_asked (Err r) = record { refused = stage_number r.stage; place = r.place; number = 0; lowest = 0 }
+
+abbrev pub flat_written : Result ℕ Refusal → Written
+flat_written (Ok n) = record { refused = 0; place = 0; records = n }
+flat_written (Err r) = record { refused = stage_number r.stage; place = r.place; records = 0 }

@@ -8,12 +8,12 @@ ghost use Rattle.rules.specs.Lists.{list_call};
 ghost use Rattle.rules.specs.Query.{query_call};
 ghost use Rattle.rules.specs.Remaining.{remaining_call};
 ghost use Rattle.totals.specs.Sum.{totals_of};
-ghost use Rattle.calls.specs.Answers.{lent, lent_of, sent_of, Uncounted};
+ghost use Rattle.calls.specs.Answers.{lent, lent_of, sent_of};
+ghost use Rattle.landarbeso.specs.Answers.{Uncounted};
 ghost use Rattle.landarbeso.specs.Numbers.{numbers_of, queried_of, Remains};
 ghost use Rattle.landarbeso.specs.Counted.{Meant};
 
-use calls::Answer;
-use landarbeso::{CheckedNumbers, Queried, Written};
+use landarbeso::{Answer, CheckedNumbers, Queried, Written};
 use totals::Totals;
 
 #[unsafe(no_mangle)]

@@ -1,4 +1,7 @@
--- Text after text.
-pub mod Texts
--- The digits of a number, and how many there are.
+-- The digits of a number, as the rules have them and as the library prints them.
 pub mod Digits
+-- The lines of such numbers, and how long they are.
+pub mod Printing
+pub mod Lengths
+-- Events and outputs in pieces of 8 bytes.
+pub mod Entries

@@ -1,7 +1,7 @@
--- What the runner prints, and how code writes it.
+-- What the runner prints, and of which values of the code.
 pub mod Lines
 pub mod Printed
 pub mod CaseSix
-pub mod Writes
+pub mod Texts
 -- What it reads of events and outputs.
 pub mod Entries

@@ -1,27 +1,34 @@
 // The events of a list and the outputs of a call: 8 bytes each, name, three zeros, value.
 ghost use Rattle.std.specs.Prelude.{◌≡◌};
-ghost use Rattle.lines.specs.Entries.{entry_at};
+ghost use Rattle.lines.specs.Entries.{entry_of, entry_at};
 
-use memory::number_of;
 use rules::Limits;
 
-#[derive(Drop)]
+#[derive(Clone, Copy, Debug, PartialEq, Eq)]
 pub struct Entry {
     pub name: u8,
     pub value: i32,
+}
+
+impl From<[u8; Limits::RECORD_BYTES]> for Entry {
+    ghost from_gives = { λ bytes e. e ≡ entry_of bytes 0 };
+
+    fn from(bytes: [u8; Limits::RECORD_BYTES]) -> Self {
+        let [name, _, _, _, b0, b1, b2, b3] = bytes;
+        Entry {
+            name,
+            value: i32::from_le_bytes([b0, b1, b2, b3]),
+        }
+    }
 }
 
 // Entry i; zeros where there is none.
 pub fn entry_at(bytes: &[u8], i: usize) -> Entry
     ensures { result ≡ entry_at bytes.now i }
 {
-    if i >= bytes.len() / Limits::RECORD_BYTES {
-        return Entry { name: 0, value: 0 };
-    }
-    let at = Limits::RECORD_BYTES * i;
-    let value = number_of(bytes[at + 4], bytes[at + 5], bytes[at + 6], bytes[at + 7]);
-    Entry {
-        name: bytes[at],
-        value,
+    let (records, _) = bytes.as_chunks::<{ Limits::RECORD_BYTES }>();
+    match records.get(i) {
+        Some(record) => Entry::from(*record),
+        None => Entry { name: 0, value: 0 },
     }
 }

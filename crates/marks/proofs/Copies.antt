@@ -168,5 +168,8 @@ module _ (b : List ℕ) (sound : Sound b) (bytes : Bytes b) where
       (λ g. whole n (second_at b i) (next_place b i p g) (omega (arith, next-falls b i p g))))
 
   -- as the code copies them
-  pub whole-records : (i : ℕ) → Place b i → {n : ℕ} → n ≡ span_at b i → take (8 * n) (drop (8 * i) b) ≡ records_for (tree_of b i)
-  whole-records i p e = rw e (sym (whole (span_at b i) i p (omega arith)))
+  pub whole-records : (i : ℕ) → Place b i → {n k : ℕ} → n ≡ span_at b i → k ≡ 8 * n → take k (drop (8 * i) b) ≡ records_for (tree_of b i)
+  whole-records i p e q = rw (q, e) (sym (whole (span_at b i) i p (omega arith)))
+
+pub whole-length : (b : List ℕ) (i : ℕ) → Place b i → length (records_for (tree_of b i)) ≡ 8 * span_at b i
+whole-length b i p = omega (arith, records-length (tree_of b i), tree-span b i p)

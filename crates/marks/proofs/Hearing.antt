@@ -5,12 +5,12 @@ use mathlib.Core.Path.{◌≡◌, refl, sym, ◌∙◌}
 use mathlib.Core.Bool.{Bool, true, false, ◌&&◌, ◌||◌}
 use mathlib.Core.List.{List, []}
 use mathlib.Core.Option.{Option, none, some}
-use Prim.Native.Nat.{ℕ, ◌*◌, ◌%◌, ◌^◌, ◌≤◌, ◌<◌}
+use Prim.Native.Nat.{ℕ, ◌*◌, ◌%◌, ◌^◌, ◌≤◌}
 use native.Mathlib.Omega.{arith}
 use lib.Count.{ones}
 use lib.Dec.{T, eqb}
 use lib.ListN.{length, get_or}
-use borrow.Author.Tests.{eq-eqb, ne_eqb, eqb-true}
+use borrow.Author.Tests.{eqb-true}
 use Rattle.rules.specs.Stages.{is_some, first_refusal}
 use Rattle.rules.specs.Limits.{most_name}
 use Rattle.rules.specs.Tree.{Tree, nop, act, await, emit, break, ifvar, seq, loop, every, par, fin, canrun, at_loop, at_par, Par, Source}
@@ -167,18 +167,14 @@ module _ (b m : List ℕ) (i : ℕ) where
   unfolding heard_at
   set-by f h = same_set (hears_at b m i) f h
 
-  pub hears-nothing : (get_or m i 0 ≡ 1 → ⊥) → 0 ≡ heard_at b m i
-  hears-nothing n = sym (set-by (λ e. false) (λ e. rw (ne_eqb (get_or m i 0) 1 n, and-false (eqb e (name_at b i))) (and-false (eqb (kind_at b i) 8 || eqb (kind_at b i) 15))) ∙ no-events)
+  pub hears-nothing : marked m i ≡ false → 0 ≡ heard_at b m i
+  hears-nothing n = sym (set-by (λ e. false) (λ e. rw (n, and-false (eqb e (name_at b i))) (and-false (eqb (kind_at b i) 8 || eqb (kind_at b i) 15))) ∙ no-events)
 
-  module _ {k : ℕ} (q : k ≡ kind_at b i) where
+  module _ {k : ℕ} (q : kind_at b i ≡ k) where
     pub hears-other : (eqb k 8 || eqb k 15) ≡ false → 0 ≡ heard_at b m i
-    hears-other h = sym (set-by (λ e. false) (λ e. rw (← q, h)) ∙ no-events)
+    hears-other h = sym (set-by (λ e. false) (λ e. rw (q, h)) ∙ no-events)
 
-    module _ (h : (eqb k 8 || eqb k 15) ≡ true) (t : T (in_kinds_table b i)) {n : ℕ} (g : n ≡ name_at b i) where
-      pub name-fits : n < 64
-      name-fits = omega (arith, (name-most b i t q h).1)
-
-      pub hears-name : get_or m i 0 ≡ 1 → (1 * 2 ^ n) % 2 ^ 64 ≡ heard_at b m i
-      hears-name e =
-          let l = name-most b i t q h in
-          rw g (one_shifted (name_at b i) l.0 l.1 ∙ sym (set-by (λ x. eqb x (name_at b i)) (λ x. rw (← q, h, eq-eqb (get_or m i 0) 1 e) (and-true (eqb x (name_at b i))))))
+    pub hears-name : (eqb k 8 || eqb k 15) ≡ true → T (in_kinds_table b i) → {n : ℕ} → n ≡ name_at b i → marked m i ≡ true → (1 * 2 ^ n) % 2 ^ 64 ≡ heard_at b m i
+    hears-name h t {n} g e =
+        let l = name-most b i t (sym q) h in
+        rw g (one_shifted (name_at b i) l.0 l.1 ∙ sym (set-by (λ x. eqb x (name_at b i)) (λ x. rw (q, h, e) (and-true (eqb x (name_at b i))))))

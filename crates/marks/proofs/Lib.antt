@@ -1,4 +1,5 @@
 -- Laws of marks: stage 8; the awaited events; the remaining program.
+pub mod Sorts
 pub mod Seeing
 pub mod Arrays
 pub mod AllFit
@@ -7,7 +8,7 @@ pub mod EventSets
 pub mod Hearing
 pub mod Onward
 pub mod Spans
-pub mod Resting
+pub mod Leavings
 pub mod Stores
 pub mod Copies
 pub mod Writing

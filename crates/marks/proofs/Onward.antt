@@ -3,6 +3,7 @@
 use Rattle.std.specs.Prelude.{if◌then◌else◌}
 use mathlib.Core.Path.{◌≡◌, refl, sym, ap, ap₂, ◌∙◌}
 use mathlib.Core.Bool.{Bool, true, false, ◌||◌}
+use mathlib.Core.Logic.{◌⊎◌, inl, inr}
 use mathlib.Core.List.{List}
 use Prim.Native.Nat.{ℕ, ◌+◌, ◌≤◌, ◌<◌}
 use native.Mathlib.Omega.{arith}
@@ -10,6 +11,13 @@ use lib.Bits.{bit_or}
 use lib.Dec.{eqb, ltb}
 use Rattle.rules.specs.Tree.{Tree, input, internal, assign, increase, copy, subtract, compare, divide, output, and, or}
 use Rattle.rules.specs.Table.{kind_at, span_at, second_at, records_of}
+use Rattle.memory.specs.declared.act.Act.TheVariants.{Assign, Increase, Copy, Subtract, Compare, Divide, Output}
+use Rattle.table.specs.declared.kind.Source.{Source}
+use Rattle.table.specs.declared.kind.Source.TheVariants.{Input, Internal}
+use Rattle.table.specs.declared.kind.Par.TheVariants.{And, Or}
+use Rattle.table.specs.declared.kind.Kind.{Kind}
+use Rattle.table.specs.declared.kind.Kind.TheVariants as kind
+use Rattle.table.specs.Named.{kind_number, Stands}
 use Rattle.table.specs.Kinds.{children_of}
 use Rattle.table.specs.Places.{Place, tree_of, SpanFor, Node, a_nop, an_act, an_await, an_emit, a_break, an_if, a_seq, a_loop, an_every, a_par, a_fin}
 use Rattle.table.proofs.Places.{span-for, span_pos, root-span}
@@ -96,6 +104,38 @@ module _ (b m : List ℕ) (i : ℕ) (p : Place b i) {j : ℕ} (q : j ≡ i + spa
       go (a_par and h) s = two (rw h refl) (λ e. rw h) (rw h at s) (λ e. refl)
       go (a_par or h) s = two (rw h refl) (λ e. rw h) (rw h at s) (λ e. refl)
       go (a_fin h) s = whole (rw h refl) (λ e. rw h)
+
+-- behind an every or a fin
+pub next-over : (b : List ℕ) (i : ℕ) {k : Kind} → Stands b i k → ((s : Source) × (k ≡ kind.Every s)) ⊎ (k ≡ kind.Fin) → {n : ℕ} → n ≡ span_at b i → i + n ≡ next_at b i
+unfolding next_at children_of
+next-over b i s (inl (Input, e)) q = rw (s.number, e, q)
+next-over b i s (inl (Internal, e)) q = rw (s.number, e, q)
+next-over b i s (inr e) q = rw (s.number, e, q)
+
+next-kind : (b : List ℕ) (i : ℕ) (k : Kind) → kind_at b i ≡ kind_number k → ((s : Source) → k ≡ kind.Every s → ⊥) → (k ≡ kind.Fin → ⊥) → i + 1 ≡ next_at b i
+unfolding next_at children_of
+next-kind b i kind.Nothing e n f = rw e
+next-kind b i (kind.Act Assign) e n f = rw e
+next-kind b i (kind.Act Increase) e n f = rw e
+next-kind b i (kind.Act Copy) e n f = rw e
+next-kind b i (kind.Act Subtract) e n f = rw e
+next-kind b i (kind.Act Compare) e n f = rw e
+next-kind b i (kind.Act Divide) e n f = rw e
+next-kind b i (kind.Act Output) e n f = rw e
+next-kind b i (kind.Await Input) e n f = rw e
+next-kind b i (kind.Await Internal) e n f = rw e
+next-kind b i kind.Emit e n f = rw e
+next-kind b i kind.Break e n f = rw e
+next-kind b i kind.If e n f = rw e
+next-kind b i kind.Sequence e n f = rw e
+next-kind b i kind.Loop e n f = rw e
+next-kind b i (kind.Every s) e n f = absurd (n s refl)
+next-kind b i (kind.Par And) e n f = rw e
+next-kind b i (kind.Par Or) e n f = rw e
+next-kind b i kind.Fin e n f = absurd (f refl)
+
+pub next_one : (b : List ℕ) (i : ℕ) {k : Kind} → Stands b i k → ((s : Source) → k ≡ kind.Every s → ⊥) → (k ≡ kind.Fin → ⊥) → i + 1 ≡ next_at b i
+next_one b i {k} s n f = next-kind b i k s.number n f
 
 pub next-after : (b : List ℕ) (i : ℕ) → Place b i → {j : ℕ} → j ≡ next_at b i → i < j
 unfolding next_at

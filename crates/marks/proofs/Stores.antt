@@ -1,11 +1,13 @@
 -- Runs of bytes stored in a buffer, one after the other.
 -- Assumes nothing.
-use mathlib.Core.Path.{◌≡◌}
+use mathlib.Core.Path.{◌≡◌, refl, sym, ◌∙◌}
 use mathlib.Core.List.{List, [], ◌∷◌, ◌++◌}
-use Prim.Native.Nat.{ℕ, suc, ◌+◌, ◌≤◌, ◌<◌}
+use Prim.Native.Nat.{ℕ, suc, ◌+◌, ◌≤◌}
 use native.Mathlib.Omega.{arith}
-use lib.ListN.{length, get_or, take, drop, set, length-drop}
-use lib.Seq.{sets, sets-eq, take-suc, length-take-le, get_or-drop}
+use lib.ListN.{length, set}
+use lib.Seq.{sets, sets-eq, take-length}
+use borrow.Rule.Slice.PartMut.{put_mid}
+use Rattle.std.proofs.lemmas.Slice.{put_mid-paste}
 use Rattle.rules.specs.Calls.{onto}
 
 -- one run, and the next behind it
@@ -17,14 +19,9 @@ stored-after l i (v ∷ vs) ws {n} e = stored-after (set l i v) (suc i) vs ws (o
 pub stored-front : (l vs : List ℕ) {n : ℕ} → n ≡ 0 → length vs ≤ length l → sets l n vs ≡ onto vs l
 stored-front l vs e h = let f : 0 + length vs ≡ length vs = omega arith in rw (e, sets-eq vs l 0 (omega arith), f)
 
--- one byte more of a copy
-pub copied_more : (l s : List ℕ) (to from j : ℕ) {out : List ℕ} → out ≡ sets l to (take j (drop from s)) → from + j < length s →
-    set out (to + j) (get_or s (from + j) 0) ≡ sets l to (take (j + 1) (drop from s))
-copied_more l s to from j e h =
-    let k : j < length (drop from s) = rw length-drop (omega arith) in
-    let n : j + 1 ≡ suc j = omega arith in
-    rw (e, n, take-suc (drop from s) j 0 k, get_or-drop from s j 0)
-    (stored-after l to (take j (drop from s)) (get_or s (from + j) 0 ∷ []) (omega (arith, length-take-le j (drop from s) (omega arith))))
+-- a part of a buffer that a run of bytes was copied over
+pub stored-part : (l vs : List ℕ) (i k : ℕ) {ws : List ℕ} → ws ≡ vs → k ≡ length vs → i + length vs ≤ length l → put_mid i k l ws ≡ sets l i vs
+stored-part l vs i k {ws} e q h = put_mid-paste i k l ws vs (length vs) e (sym q) refl ∙ (rw (take-length vs) (sym (sets-eq vs l i h)))
 
 -- a number and a numeral, one by one
 pub record Sums (n : ℕ) : Type 0 where

@@ -3,19 +3,18 @@
 use mathlib.Core.Path.{◌≡◌, refl, sym, ap, ◌∙◌}
 use mathlib.Core.List.{List}
 use mathlib.Core.Option.{Option, none, some}
-use Prim.Native.Nat.{ℕ, ◌+◌, ◌*◌, ◌≤◌}
+use Prim.Native.Nat.{ℕ, ◌*◌, ◌≤◌, max}
 use native.Mathlib.Omega.{arith}
-use lib.ListN.{length, get_or}
+use lib.ListN.{length}
 use lib.Seq.{sets}
 use borrow.Author.Tests.{eqb-false}
 use Rattle.rules.specs.Tree.{Tree, nop, span_of, head_of}
-use Rattle.rules.specs.Table.{records_of, program_of}
+use Rattle.rules.specs.Table.{program_of}
 use Rattle.rules.specs.Marks.{rest_of, or_nop, at_rest}
 use Rattle.rules.specs.Calls.{onto}
 use Rattle.rules.specs.Remaining.{record_of, records_for}
 use Rattle.table.specs.Places.{tree_of}
-use Rattle.marks.specs.Fitting.{Sound}
-use Rattle.marks.specs.Rest.{span_o, records_o, rest_span, rest_records, head_bytes, Rests, Room}
+use Rattle.marks.specs.Rest.{span_o, records_o, rest_span, rest_records, head_bytes}
 use Rattle.marks.proofs.Spans.{something}
 use Rattle.marks.proofs.Stores.{stored-front}
 use Rattle.marks.proofs.Copies.{records-length}
@@ -32,13 +31,20 @@ some-records : (o : Option Tree) → (span_o o ≡ 0 → ⊥) → records_o o �
 some-records none e = absurd (e refl)
 some-records (some t) e = refl
 
-module _ (b m rests : List ℕ) (sound : Sound b) (known : Rests b m 0 rests) {s : ℕ} (q : s ≡ get_or rests 0 0) where
-  span-root : s ≡ rest_span m (tree_of b 0)
-  span-root = q ∙ known.at 0 (omega arith) sound.root.inside
+most-span : (o : Option Tree) → max (span_o o) 1 ≡ span_of (or_nop o)
+unfolding span_of
+most-span none = refl
+most-span (some t) = omega (arith, eqb-false (span_of t) 0 (something t))
 
+-- the count of the whole program, as the code finds it
+module _ (b m : List ℕ) {s : ℕ} (q : s ≡ rest_span m (tree_of b 0)) where
   span_rest : s ≡ span_o (rest_of m (program_of b))
   unfolding rest_span tree_of program_of
-  span_rest = span-root
+  span_rest = q
+
+  pub most-rest : max s 1 ≡ span_of (at_rest m (program_of b))
+  unfolding at_rest
+  most-rest = rw span_rest (most-span (rest_of m (program_of b)))
 
   module _ (e : s ≡ 0) where
     nothing_left : at_rest m (program_of b) ≡ nop 0
@@ -48,9 +54,6 @@ module _ (b m rests : List ℕ) (sound : Sound b) (known : Rests b m 0 rests) {s
     pub span-nothing : 1 ≡ span_of (at_rest m (program_of b))
     unfolding span_of
     span-nothing = sym (ap span_of nothing_left)
-
-    pub room-nothing : {n : ℕ} → 8 * span_of (at_rest m (program_of b)) ≤ n → 8 * (0 + 1) ≤ n
-    room-nothing h = omega (arith, span-nothing)
 
     pub wrote_nothing : (out : List ℕ) {o1 : List ℕ} → 8 * span_of (at_rest m (program_of b)) ≤ length out → o1 ≡ sets out (8 * 0) (head_bytes 0 1) → o1 ≡ onto (records_for (at_rest m (program_of b))) out
     unfolding records_for record_of head_of span_of
@@ -64,9 +67,6 @@ module _ (b m rests : List ℕ) (sound : Sound b) (known : Rests b m 0 rests) {s
     records-something : rest_records m (tree_of b 0) ≡ records_for (at_rest m (program_of b))
     unfolding rest_records at_rest tree_of program_of
     records-something = some-records (rest_of m (program_of b)) (λ z. e (span_rest ∙ z))
-
-    pub room-something : length m ≡ records_of b → {n : ℕ} → 8 * span_of (at_rest m (program_of b)) ≤ n → Room b m rests 0 0 n
-    room-something z h = record { spot = record { place = sound.root; sized = z }; sound = sound; known = known; room = omega (arith, span-root, span-something) }
 
     pub wrote-something : (out : List ℕ) {o1 : List ℕ} → 8 * span_of (at_rest m (program_of b)) ≤ length out → o1 ≡ sets out (8 * 0) (rest_records m (tree_of b 0)) → o1 ≡ onto (records_for (at_rest m (program_of b))) out
     wrote-something out h u =

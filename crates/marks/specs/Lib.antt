@@ -2,3 +2,4 @@
 pub mod Fitting
 pub mod Awaited
 pub mod Rest
+pub mod Leaving

@@ -1,9 +1,12 @@
 // The waiting marks: stage 8, the events that a program at rest awaits, and the remaining program.
 #![tactic(auto)]
 
+mod counted;
 mod fitting;
+mod marked;
 mod query;
 mod remaining;
+mod resting;
 
 pub use fitting::marks_refused;
 pub use query::{Asked, ask, awaited, lowest_of, number_of};

@@ -1,60 +1,52 @@
--- Sums and differences modulo 2^32 are those of the bits.
+-- What std's wrapping methods leave of a sum, a difference and a quotient is what the rules take modulo 2^32.
 -- Assumes nothing.
-use Rattle.std.proofs.Common.{◌≡◌, ℕ, zero, suc, ◌+◌, ◌-◌, ◌%◌, ◌^◌, ◌<◌, Bool, true, false, cond, ltb, ℤ, pos, negsuc, ◌+ℤ◌, ◌-ℤ◌, neg_ℤ, refl, ap, ◌∙◌, arith, to_z-of_z, w32, SFits, to_z, of_z, ltb-false, ltb-true}
-use lib.IntN.{sub_ℕ}
-use mir.Facts.{Fits-of_z}
-use Rattle.rules.specs.Number.{wrap, sum, difference}
+use Rattle.std.proofs.Common.{◌≡◌, ℕ, zero, suc, ◌/◌, ◌^◌, ◌<◌, ◌≤◌, ℤ, pos, negsuc, ◌+ℤ◌, ◌-ℤ◌, neg_ℤ, refl, sym, ap, ◌∙◌, arith, div-le_self, eq-eqb, ne_eqb, w32, SFits, to_z, of_z}
+use Rattle.std.proofs.lemmas.Int.{wrapping_add_is, wrapping_sub_is}
+use Rattle.std.specs.Int.{int_wrap, int_wrapping_add, int_wrapping_sub, int_wrapping_div}
+use lib.Signed.{mag, quot_z}
+use Rattle.rules.specs.Number.{wrap, sum, difference, quotient}
 
--- a whole number modulo 2^32
-abbrev pub low : ℤ → ℕ
-low (pos n) = n % 2 ^ 32
-low (negsuc n) = 2 ^ 32 - suc (n % 2 ^ 32)
+wraps : (z : ℤ) → int_wrap w32 z ≡ wrap z
+unfolding int_wrap wrap
+wraps (pos n) = refl
+wraps (negsuc n) = ap (to_z w32) (omega arith)
 
-pub wrap-low : (z : ℤ) → wrap z ≡ to_z w32 (low z)
-unfolding wrap
-wrap-low (pos n) = refl
-wrap-low (negsuc n) = refl
-
-low-sub : (a b : ℕ) → low (sub_ℕ a (suc b)) ≡ (a % 2 ^ 32 + (2 ^ 32 - suc (b % 2 ^ 32))) % 2 ^ 32
-low-sub a b = go (ltb a (suc b)) refl
-  where
-    go : (t : Bool) → ltb a (suc b) ≡ t → low (cond t (negsuc (suc b - suc a)) (pos (a - suc b))) ≡ (a % 2 ^ 32 + (2 ^ 32 - suc (b % 2 ^ 32))) % 2 ^ 32
-    go true e = omega (arith, ltb-true a (suc b) e)
-    go false e = omega (arith, ltb-false a (suc b) e)
-
-pub low_sum : (a b : ℤ) → low (a +ℤ b) ≡ (low a + low b) % 2 ^ 32
-low_sum (pos a) (pos b) = omega arith
-low_sum (pos a) (negsuc b) = low-sub a b
-low_sum (negsuc a) (pos b) = low-sub b a ∙ omega arith
-low_sum (negsuc a) (negsuc b) = omega arith
-
-pub low-neg : (a : ℤ) → low (neg_ℤ a) ≡ (2 ^ 32 - low a) % 2 ^ 32
-low-neg (pos zero) = refl
-low-neg (pos (suc n)) = omega arith
-low-neg (negsuc n) = omega arith
-
--- a number that fits is its bits
-pub low_fits : (a : ℤ) → SFits w32 a → low a ≡ of_z w32 a
-low_fits (pos n) f = let h : n < 2 ^ 31 = f.sfits in omega arith
-low_fits (negsuc n) f = let h : n < 2 ^ 31 = f.sfits in omega arith
-
-pub bits_below : (a : ℤ) → SFits w32 a → of_z w32 a < 2 ^ 32
-bits_below a f = (Fits-of_z f).fits
-
-pub wrap-fits : (a : ℤ) → SFits w32 a → wrap a ≡ a
-wrap-fits a f = wrap-low a ∙ ap (to_z w32) (low_fits a f) ∙ to_z-of_z f
-
-module _ (a b : ℤ) (fa : SFits w32 a) (fb : SFits w32 b) where
-  pub sum-bits : sum a b ≡ to_z w32 ((of_z w32 a + of_z w32 b) % 2 ^ 32)
+module _ (a b : ℤ) (f : SFits w32 a) where
+  pub sum_wraps : SFits w32 b → int_wrapping_add w32 a b ≡ sum a b
   unfolding sum
-  sum-bits =
-      let e : low (a +ℤ b) ≡ (of_z w32 a + of_z w32 b) % 2 ^ 32 = low_sum a b ∙ rw (low_fits a fa, low_fits b fb) in
-      wrap-low (a +ℤ b) ∙ ap (to_z w32) e
+  sum_wraps g = wrapping_add_is w32 a b f g ∙ wraps (a +ℤ b)
 
-  -- r is the one number below 2^32 that gives a again
-  pub difference-bits : (r : ℕ) → r < 2 ^ 32 → (r + of_z w32 b) % 2 ^ 32 ≡ of_z w32 a → difference a b ≡ to_z w32 r
+  pub difference_wraps : SFits w32 b → int_wrapping_sub w32 a b ≡ difference a b
   unfolding difference
-  difference-bits r h e =
-      let s : low (a -ℤ b) ≡ (low a + (2 ^ 32 - low b) % 2 ^ 32) % 2 ^ 32 = low_sum a (neg_ℤ b) ∙ rw (low-neg b) in
-      let l : low (a -ℤ b) ≡ r = s ∙ rw (low_fits a fa, low_fits b fb) (omega (arith, bits_below b fb)) in
-      wrap-low (a -ℤ b) ∙ ap (to_z w32) l
+  difference_wraps g = wrapping_sub_is w32 a b f g ∙ wraps (a -ℤ b)
+
+-- ---- the quotient
+
+pub quotient_by_zero : (a b : ℤ) → SFits w32 b → of_z w32 b ≡ 0 → quotient a b ≡ pos 0
+unfolding quotient
+quotient_by_zero a (pos n) f e = rw (eq-eqb n 0 e)
+quotient_by_zero a (negsuc n) f e = let h : n < 2 ^ 31 = f.sfits in absurd (omega arith)
+
+by-other : (a b : ℤ) → (of_z w32 b ≡ 0 → ⊥) → quotient a b ≡ wrap (quot_z a b)
+unfolding quotient
+by-other a (pos n) e = rw (ne_eqb n 0 e)
+by-other a (negsuc n) e = refl
+
+negated : (q : ℕ) → mag (neg_ℤ (pos q)) ≤ q
+negated zero = omega arith
+negated (suc q) = omega arith
+
+magnitude : (a b : ℤ) → mag (quot_z a b) ≤ suc (mag a)
+magnitude (pos a) (pos b) = omega (arith, div-le_self a b)
+magnitude (pos a) (negsuc b) = omega (arith, negated (a / suc b), div-le_self a (suc b))
+magnitude (negsuc a) (pos b) = omega (arith, negated (suc a / b), div-le_self (suc a) b)
+magnitude (negsuc a) (negsuc b) = div-le_self (suc a) (suc b)
+
+-- 32 bits hold it
+low : (z : ℤ) → mag z < 2 ^ 32 → to_z w32 (of_z w32 z) ≡ wrap z
+unfolding wrap
+low (pos n) h = ap (to_z w32) (omega arith)
+low (negsuc n) h = ap (to_z w32) (omega arith)
+
+pub quotient_wraps : (a b : ℤ) → SFits w32 a → (of_z w32 b ≡ 0 → ⊥) → int_wrapping_div w32 a b ≡ quotient a b
+quotient_wraps a b f e = low (quot_z a b) (omega (arith, magnitude a b, f.sfits)) ∙ sym (by-other a b e)

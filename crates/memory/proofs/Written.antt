@@ -1,6 +1,10 @@
 -- Outputs as bytes in a room: one output more, and those that fit.
 -- Assumes nothing.
-use Rattle.std.proofs.Common.{◌≡◌, ℕ, ◌+◌, ◌*◌, ◌/◌, ◌%◌, ◌<◌, ◌≤◌, min, Bool, true, false, ltb, List, [], ◌∷◌, ◌++◌, length, drop, ℤ, sym, refl, ap, ◌∙◌, arith, length-append, length-take, take_all, drop-drop, ltb-false, ltb-true, le-ltb, lt-ltb}
+use Rattle.std.proofs.Common.{◌≡◌, ℕ, ◌+◌, ◌-◌, ◌*◌, ◌/◌, ◌%◌, ◌^◌, ◌<◌, ◌≤◌, min, Bool, true, false, ltb, List, [], ◌∷◌, ◌++◌, length, drop, ℤ, sym, refl, ap, ◌∙◌, arith, length-append, length-take, take_all, drop-drop, ltb-false, ltb-true, le-ltb, lt-ltb}
+use borrow.Rule.Slice.PartMut.{put_mid}
+use Rattle.std.proofs.lemmas.Slice.{put_mid-paste}
+use Rattle.std.specs.Int.{w32, to_le_bytes}
+use Rattle.rules.specs.Number.{four_bytes}
 use lib.Seq.{sets, sets-eq, take-append_seam, drop-append-add, take-append-le}
 use Rattle.rules.specs.Limits.{record_bytes, top_total}
 use Rattle.rules.specs.Memory.{Output}
@@ -8,6 +12,16 @@ use Rattle.rules.specs.Calls.{out_record, out_bytes, onto}
 use Rattle.rules.proofs.Buffers.{bytes-length, onto-length}
 use Rattle.memory.specs.Arrays.{put_output}
 use Rattle.memory.specs.Stands.{fitting}
+
+pub le_bytes : (n : ℕ) → n < 2 ^ 32 → to_le_bytes w32 n ≡ four_bytes n
+le_bytes n h = ap (λ (b : ℕ). n % 256 ∷ n / 256 % 256 ∷ n / 65536 % 256 ∷ b ∷ []) (omega arith)
+
+-- a record copied to its place
+pub puts : (room bytes : List ℕ) (n o : ℕ) (z : ℤ) → n < length room / record_bytes → bytes ≡ out_record (o % 256) z → put_mid (record_bytes * n) (record_bytes * n + record_bytes - record_bytes * n) room bytes ≡ put_output room n o z
+puts room bytes n o z h e =
+    rw (lt-ltb n (length room / record_bytes) h)
+    (put_mid-paste (record_bytes * n) _ room bytes (out_record (o % 256) z) record_bytes e (omega arith) refl
+    ∙ sym (sets-eq (out_record (o % 256) z) room (record_bytes * n) (omega arith)))
 
 abbrev pub made : ℕ → ℤ → Output
 made o z = record { name = o; value = z }

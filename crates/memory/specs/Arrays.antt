@@ -1,5 +1,5 @@
 -- The memory of a running program as the arrays that are lent down every walk, and what kinds 1 to 7 do to them.
-use Rattle.std.specs.Prelude.{◌≡◌, ℕ, ◌+◌, ◌*◌, ◌/◌, ◌%◌, Bool, not, List, [], ◌∷◌, length, ℤ, pos, ◌==◌, nat_lt, slice_index, slice_index_or, slice_set, if◌then◌else◌}
+use Rattle.std.specs.Prelude.{ℕ, ◌+◌, ◌*◌, ◌/◌, ◌%◌, Bool, not, List, [], ◌∷◌, length, ℤ, pos, nat_lt, slice_index, slice_index_or, slice_set, if◌then◌else◌}
 use Rattle.std.proofs.Math.Option.{Option, none, some}
 use Rattle.std.specs.Int.Signed.{mag}
 use Rattle.std.proofs.lemmas.List.Edits.{sets}
@@ -61,27 +61,10 @@ acts output o w a = make_output a o (variable a.vars (mag w))
 abbrev pub acts_by_kind : List (Option Act)
 acts_by_kind = none ∷ some assign ∷ some increase ∷ some copy ∷ some subtract ∷ some compare ∷ some divide ∷ some output ∷ []
 
-abbrev pub act_of : ℕ → Option Act
-act_of k = slice_index_or acts_by_kind k none
+abbrev pub act_at : ℕ → Option Act
+act_at k = slice_index_or acts_by_kind k none
 
 -- any other kind does nothing
 unfoldable pub kind_acts : ℕ → ℕ → ℤ → Arrays → Arrays
 unfolding acts
-kind_acts k v n a = option a (λ x. acts x v n a) (act_of k)
-
--- what kinds 1 to 6 work with: a number, or the variable that it names
-abbrev pub operand : ℕ → ℤ → List ℤ → ℤ
-operand k n l = if nat_lt k 3 then n else variable l (mag n)
-
--- what kinds 1 to 6 make of their variable
-unfoldable pub new_value : ℕ → ℤ → ℤ → ℤ
-unfolding sum difference quotient
-new_value k a b = if k == 2 then sum a b else if k == 4 then difference a b else if k == 5 then is_less a b else if k == 6 then quotient a b else b
-
--- ---- what a call promises that is lent some of the arrays only: with any others
-
-abbrev pub Ticks : List ℕ → List ℕ → Type 0
-Ticks c c' = (v : List ℤ) (o : List ℕ) → arrays v o c' ≡ tick (arrays v o c)
-
-abbrev pub Tests : Bool → List ℤ → ℕ → Type 0
-Tests b l v = (o c : List ℕ) → b ≡ is_nonzero (arrays l o c) v
+kind_acts k v n a = option a (λ x. acts x v n a) (act_at k)

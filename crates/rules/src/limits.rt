@@ -27,11 +27,11 @@ impl Limits {
     // The outputs for which the runner has room.
     pub const RUNNER_OUTPUTS: usize = 8192;
     // Where the running totals stop.
-    pub const TOP_TOTAL: u64 = 18446744073709551615;
+    pub const TOP_TOTAL: u64 = u64::MAX;
 }
 
-// The constants once more, as one value: what the proof that each equals its definition speaks of.
-#[derive(Drop)]
+// The constants once more, as one value: a `const` has no clause of its own, so a function promises that each equals its definition, of what it answers.
+#[derive(Clone, Copy, Debug, PartialEq, Eq)]
 pub struct Constants {
     pub record_bytes: usize,
     pub records: usize,
@@ -47,7 +47,16 @@ pub struct Constants {
 
 impl Limits {
     pub fn constants() -> Constants
-        ensures { (result.record_bytes ≡ record_bytes) × (result.records ≡ most_records) × (result.table_bytes ≡ most_table_bytes) × (result.loops ≡ most_loops) × (result.variables ≡ variables) × (result.name ≡ most_name) × (result.list_bytes ≡ most_list_bytes) × (result.list_too_long ≡ list_too_long) × (result.runner_outputs ≡ runner_outputs) × (result.top_total ≡ top_total) }
+        ensures a_record { result.record_bytes ≡ record_bytes }
+        ensures records_at_most { result.records ≡ most_records }
+        ensures a_table { result.table_bytes ≡ most_table_bytes }
+        ensures loops_at_most { result.loops ≡ most_loops }
+        ensures all_variables { result.variables ≡ variables }
+        ensures name_at_most { result.name ≡ most_name }
+        ensures a_list { result.list_bytes ≡ most_list_bytes }
+        ensures place_of_a_long_list { result.list_too_long ≡ list_too_long }
+        ensures outputs_of_the_runner { result.runner_outputs ≡ runner_outputs }
+        ensures where_totals_stop { result.top_total ≡ top_total }
     {
         Constants {
             record_bytes: Limits::RECORD_BYTES,
@@ -63,11 +72,11 @@ impl Limits {
         }
     }
 
-    // The most internal events of a reaction.
+    // The most of a reaction: internal events, level, steps and outputs. Each takes the counts that its definition takes, which differ, and so no struct of them all.
     pub fn emitted(emits: u16, loops: u8) -> u64
         ensures { result ≡ most_emitted emits loops }
     {
-        (emits as u64) * (loops as u64 + 1)
+        u64::from(emits) * (u64::from(loops) + 1)
     }
 
     pub fn level(emits: u16, loops: u8) -> u64
@@ -79,13 +88,14 @@ impl Limits {
     pub fn steps(records: u16, emits: u16, loops: u8) -> u64
         ensures { result ≡ most_steps records loops (most_emitted emits loops) }
     {
-        5 * (records as u64) * (loops as u64 + 1)
-            + Limits::level(emits, loops) * (records as u64 + 2)
+        5 * u64::from(records) * (u64::from(loops) + 1)
+            + Limits::level(emits, loops) * (u64::from(records) + 2)
     }
 
     pub fn outputs(outside: u16, inside: u16, emits: u16, loops: u8) -> u64
         ensures { result ≡ most_outputs outside inside loops (most_emitted emits loops) }
     {
-        (outside as u64) * (loops as u64 + 1) + (inside as u64) * Limits::level(emits, loops)
+        u64::from(outside) * (u64::from(loops) + 1)
+            + u64::from(inside) * Limits::level(emits, loops)
     }
 }

@@ -3,88 +3,60 @@
 #![tactic(auto)]
 
 mod file;
-mod print;
+mod line;
+mod run;
 mod tested;
 
-use acceptance::Checked;
-use calls::Answer;
+use lines::Entry;
 use rules::Limits;
+use run::{Program, Run};
 use std::io;
+use table::Refusal;
 
-// Whether the call was carried out; a refusal ends the run.
-fn report(rt: &impl Print, event: u32, value: i32, answer: Answer, out: &[u8]) -> io::Result<bool> {
-    if answer.refused != 0 {
-        print::refusal(rt, answer.refused, answer.place)?;
-        return Ok(false);
+// Why a run ends before its last event.
+#[derive(Drop)]
+enum Ended {
+    Refused(Refusal),
+    Unwritten(io::Error),
+}
+
+impl From<Refusal> for Ended {
+    fn from(refusal: Refusal) -> Self {
+        Ended::Refused(refusal)
     }
-    let outputs = answer.outputs;
-    print::call(rt, event, value, answer)?;
-    print::outputs(rt, out, outputs)?;
-    Ok(true)
 }
 
-// The reaction to event i. The room of its outputs is free again for the next one.
-fn react(
-    rt: &impl Print,
-    table: &[u8],
-    marks: &mut [u8],
-    vars: &mut [i32],
-    events: &[u8],
-    i: usize,
-    out: &mut [u8],
-) -> io::Result<bool> {
-    let sent = lines::entry_at(events, i);
-    let event = sent.name as u32;
-    let value = sent.value;
-    let answer = calls::react(table, marks, vars, event, value, out);
-    report(rt, event, value, answer, out)
+impl From<io::Error> for Ended {
+    fn from(error: io::Error) -> Self {
+        Ended::Unwritten(error)
+    }
 }
 
-fn react_all(
-    rt: &impl Print,
-    table: &[u8],
-    marks: &mut [u8],
-    vars: &mut [i32],
-    events: &[u8],
-    out: &mut [u8],
-) -> io::Result<()> {
-    let count = events.len() / Limits::RECORD_BYTES;
-    for i in 0..count {
-        if !react(rt, table, marks, vars, events, i, out)? {
-            break;
-        }
+// The lines of the run. Table, room and events are tested before the first of them.
+fn print_run(rt: &impl Print, table: &[u8], events: &[u8]) -> Result<(), Ended> {
+    tested::verdict(table, events)?;
+    let mut run = Run::of_program(Program { table });
+    let done = run.start()?;
+    run.report(rt, 0, 0, done)?;
+    let (records, _) = events.as_chunks::<{ Limits::RECORD_BYTES }>();
+    for record in records {
+        let sent = Entry::from(*record);
+        let event = u32::from(sent.name);
+        let done = run.react(event, sent.value)?;
+        run.report(rt, event, sent.value, done)?;
     }
     Ok(())
 }
 
-// One mark for each record; all variables 0; room for 8,192 outputs.
-fn run(rt: &impl Print, table: &[u8], marks: &mut [u8], events: &[u8]) -> io::Result<()> {
-    let mut vars = [0i32; Limits::VARIABLES];
-    let mut out = [0u8; Limits::RUNNER_OUTPUTS * Limits::RECORD_BYTES];
-    let answer = calls::start(table, marks, &mut vars, &mut out);
-    if report(rt, 0, 0, answer, &out)? {
-        react_all(rt, table, marks, &mut vars, events, &mut out)?;
-    }
-    Ok(())
-}
-
-// The lines of the run, or the refusal that comes before the first of them.
-fn run_tested(rt: &impl Print, table: &[u8], events: &[u8]) -> io::Result<()> {
-    let verdict = tested::verdict(table, events);
-    match verdict {
-        Checked::Refused(refusal) => print::refusal(rt, refusal.number, refusal.place),
-        Checked::Accepted(_) => {
-            let mut marks = [0u8; Limits::RECORDS];
-            let records = table.len() / Limits::RECORD_BYTES;
-            run(rt, table, &mut marks[..records], events)
-        }
-    }
-}
-
+// A refusal is the last line.
 fn main(rt: HostRuntime) -> io::Result<()> {
-    let mut table = [0u8; Limits::TABLE_BYTES + 1];
-    let table_len = file::read(&rt, b"program.rec", &mut table);
-    let mut events = [0u8; Limits::LIST_BYTES + 1];
-    let events_len = file::read(&rt, b"events.rec", &mut events);
-    run_tested(&rt, &table[..table_len], &events[..events_len])
+    let mut table = [0; Limits::TABLE_BYTES + 1];
+    let table = file::read(&rt, b"program.rec", &mut table);
+    let mut events = [0; Limits::LIST_BYTES + 1];
+    let events = file::read(&rt, b"events.rec", &mut events);
+    match print_run(&rt, table, events) {
+        Ok(()) => Ok(()),
+        Err(Ended::Refused(refusal)) => rt.print(line::of_refusal(refusal)),
+        Err(Ended::Unwritten(error)) => Err(error),
+    }
 }

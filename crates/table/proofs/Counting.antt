@@ -1,10 +1,8 @@
 -- What holds at each of the numbers below a numeral, said once.
 -- Assumes nothing.
 use mathlib.Core.Path.{◌≡◌, subst}
-use mathlib.Core.Bool.{Bool, true, false, ◌&&◌}
 use Prim.Native.Nat.{ℕ, zero, suc, ◌+◌, ◌<◌}
 use native.Mathlib.Omega.{arith}
-use lib.Dec.{T}
 
 -- P from m on, at n numbers
 abbrev pub Each : (ℕ → Type 0) → ℕ → ℕ → Type 0
@@ -18,19 +16,3 @@ from P (suc n) m a (suc k) h = let e : suc m + k ≡ m + suc k = omega arith in 
 
 pub each : (P : ℕ → Type 0) (n : ℕ) → Each P 0 n → (k : ℕ) → k < n → P k
 each P n a k h = let e : 0 + k ≡ k = omega arith in subst P e (from P n 0 a k h)
-
--- a test that antt computes
-abbrev pub passes : (ℕ → Bool) → ℕ → ℕ → Bool
-passes f m zero = true
-passes f m (suc n) = f m && passes f (suc m) n
-
-both : (x y : Bool) {B : Type 0} → (T y → B) → T (x && y) → T x × B
-both true y f t = (tt, f t)
-both false y f t = absurd t
-
-passed : (f : ℕ → Bool) (n m : ℕ) → T (passes f m n) → Each (λ k. T (f k)) m n
-passed f zero m t = tt
-passed f (suc n) m t = both (f m) (passes f (suc m) n) (passed f n (suc m)) t
-
-pub computed : (f : ℕ → Bool) (n : ℕ) → T (passes f 0 n) → (k : ℕ) → k < n → T (f k)
-computed f n t = each (λ k. T (f k)) n (passed f n 0 t)

@@ -1,18 +1,18 @@
 -- The places that fail a test, place by place; the lowest of them, also of two lists, and the refusal that it stands for.
 -- Assumes nothing.
-use Rattle.std.specs.Prelude.{if◌then◌else◌}
-use mathlib.Core.Path.{◌≡◌, refl, ap, subst}
+use Rattle.std.specs.Prelude.{if◌then◌else◌, None, Some}
+use Rattle.std.specs.Prelude as std
+use mathlib.Core.Path.{◌≡◌, refl, sym, ap, subst, ◌∙◌}
 use mathlib.Core.Bool.{Bool, true, false}
 use mathlib.Core.List.{List, [], ◌∷◌, ◌++◌}
 use mathlib.Core.Option.{Option, some}
-use Prim.Native.Nat.{ℕ, suc, ◌+◌, ◌-◌, ◌≤◌, ◌<◌}
+use Prim.Native.Nat.{ℕ, zero, suc, ◌+◌, ◌-◌, ◌≤◌, ◌<◌}
+use native.Mathlib.Numerals.{add-one}
 use native.Mathlib.Omega.{arith}
 use Rattle.rules.specs.Stages.{failing, Refusal, refusal, or_else}
 use Rattle.rules.specs.Table.{records_of}
 use Rattle.theory.specs.Logic.{clash}
-use Rattle.table.specs.Found.{first_of, Inside, or_next}
-use Rattle.table.specs.declared.Found.{Found}
-use Rattle.table.specs.declared.Found.TheVariants.{At, Nothing}
+use Rattle.table.specs.Found.{first_of, Inside, or_next, First}
 
 -- ---- the places that fail a test, from place i on
 
@@ -40,32 +40,42 @@ module _ (ok : ℕ → Bool) (i n : ℕ) where
 
 -- ---- the lowest of them
 
-pub all_left : (ok : ℕ → Bool) (n : ℕ) → first_of (failing ok 0 n) ≡ first_of (failing ok 0 (n - 0))
-all_left ok n = ap first_of (failing-all ok n)
-
 module _ (ok : ℕ → Bool) (i n : ℕ) (l : i < n) where
   pub passes-here : ok i ≡ true → first_of (failing ok i (n - i)) ≡ first_of (failing ok (i + 1) (n - (i + 1)))
   passes-here e = ap first_of (failing-passes ok i n l e)
 
-  pub fails-here : ok i ≡ false → first_of (failing ok i (n - i)) ≡ At i
+  pub fails-here : ok i ≡ false → first_of (failing ok i (n - i)) ≡ Some i
   fails-here e = ap first_of (failing-fails ok i n l e)
 
-pub none_left : (ok : ℕ → Bool) (i n : ℕ) → n ≤ i → first_of (failing ok i (n - i)) ≡ Nothing
+pub none_left : (ok : ℕ → Bool) (i n : ℕ) → n ≤ i → first_of (failing ok i (n - i)) ≡ None
 none_left ok i n h = ap first_of (failing-over ok i n h)
 
 pub first-append : (a b : List ℕ) → first_of (a ++ b) ≡ or_next (first_of a) (first_of b)
 first-append [] b = refl
 first-append (i ∷ is) b = refl
 
-pub found_inside : (b : List ℕ) {x : Found} {m : ℕ} → x ≡ At m → Inside b x → m < records_of b
+pub found_inside : (b : List ℕ) {x : std.Option ℕ} {m : ℕ} → x ≡ Some m → Inside b x → m < records_of b
 found_inside b e h = subst (Inside b) e h
+
+-- ---- what `find` over a range says
+
+module _ (ok : ℕ → Bool) (n : ℕ) where
+  passes_before : (i : ℕ) → i ≤ n → ((k : ℕ) → 0 ≤ k → k < i → ok k ≡ true) → failing ok 0 n ≡ failing ok i (n - i)
+  passes_before zero h f = failing-all ok n
+  passes_before (suc i) h f =
+      passes_before i (omega arith) (λ k z l. f k z (omega arith))
+      ∙ rw (add-one i) at (failing-passes ok i n (omega arith) (f i (omega arith) (omega arith)))
+
+  pub first_fails : (r : std.Option ℕ) → First ok n r → r ≡ first_of (failing ok 0 n)
+  first_fails None h = sym (ap first_of (passes_before n (omega arith) h ∙ failing-over ok n n (omega arith)))
+  first_fails (Some i) h = sym (ap first_of (passes_before i (omega arith) h.3 ∙ failing-fails ok i n h.1 h.2))
 
 -- ---- what was found of the places that fail a stage
 
-pub found-fails : (is : List ℕ) {x : Found} {p : ℕ} → x ≡ first_of is → x ≡ At p → (k : ℕ) (later : Option Refusal) → or_else is k later ≡ some (refusal k p)
+pub found-fails : (is : List ℕ) {x : std.Option ℕ} {p : ℕ} → x ≡ first_of is → x ≡ Some p → (k : ℕ) (later : Option Refusal) → or_else is k later ≡ some (refusal k p)
 found-fails [] e d k later = clash (cc)
 found-fails (i ∷ is) {x} {p} e d k later = let q : i ≡ p = cc in rw q
 
-pub found_none : (is : List ℕ) {x : Found} → x ≡ first_of is → x ≡ Nothing → is ≡ []
+pub found_none : (is : List ℕ) {x : std.Option ℕ} → x ≡ first_of is → x ≡ None → is ≡ []
 found_none [] e d = refl
 found_none (i ∷ is) e d = clash (cc)

@@ -5,3 +5,4 @@ pub mod Trees
 pub mod Laid
 pub mod Passed
 pub mod Finding
+pub mod Spots

@@ -5,14 +5,11 @@ use mathlib.Core.Bool.{Bool, true, false, not, ◌&&◌}
 use mathlib.Core.List.{List}
 use Prim.Native.Nat.{ℕ, ◌*◌, ◌%◌, ◌≤◌, ◌<◌}
 use native.Mathlib.Omega.{arith}
-use lib.Dec.{T, eqb, leb, ltb}
-use lib.IntN.{pos}
+use lib.Dec.{T, eqb, leb}
 use lib.ListN.{length}
-use borrow.Author.Tests.{eqb-true, eqb-false, leb-true, ltb-false, ne_eqb, lt-leb, le-leb}
-use mir.Syntax.{w32}
-use mir.Val.{to_z}
-use Rattle.rules.specs.Limits.{Announced, record_bytes, most_records, most_table_bytes, most_name}
-use Rattle.rules.specs.Table.{Range, nought, anything, up_to63, one_to63, records_of, in_range, in_kinds_table}
+use borrow.Author.Tests.{eqb-true, eqb-false, leb-true}
+use Rattle.rules.specs.Limits.{Announced, record_bytes, most_records, most_table_bytes}
+use Rattle.rules.specs.Table.{records_of, in_kinds_table}
 use Rattle.rules.specs.Check.{check, accepted, good_length}
 use Rattle.theory.specs.Logic.{clash, T→true}
 use Rattle.theory.proofs.Accepted.{accepts}
@@ -49,14 +46,3 @@ pub passed : (b : List ℕ) (a : Announced) → check b ≡ accepted a → Passe
 passed b a e =
     let k = accepts b a e in
     record { size = sized b (T→true (good_length b) k.whole); shape = k.shaped; ranges = k.named }
-
--- the bits of a number lie in a range exactly where the number does
-pub bits_range : (r : Range) (n : ℕ) → in_range r (pos n) ≡ in_range r (to_z w32 n)
-bits_range r n = go r (ltb n 2147483648) refl
-  where
-    go : (r : Range) (x : Bool) → ltb n 2147483648 ≡ x → in_range r (pos n) ≡ in_range r (to_z w32 n)
-    go r true e = rw e
-    go nought false e = rw (e, ne_eqb n 0 (λ z. omega (arith, ltb-false n 2147483648 e)))
-    go anything false e = refl
-    go up_to63 false e = rw (e, lt-leb n most_name (omega (arith, ltb-false n 2147483648 e)))
-    go one_to63 false e = rw (e, le-leb 1 n (omega (arith, ltb-false n 2147483648 e)), lt-leb n most_name (omega (arith, ltb-false n 2147483648 e)))

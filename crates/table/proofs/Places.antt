@@ -100,13 +100,6 @@ module _ (b : List ℕ) (i : ℕ) (p : Place b i) where
   pub next-falls : 2 ≤ children_of (kind_at b i) → span_at b (i + 1) + span_at b (second_at b i) < span_at b i
   next-falls h = (for-next (children_of (kind_at b i)) b i h span-for).1
 
--- what a recursive call asks, as a pair: that the span falls below m, and that the child is a place
-pub down : (b : List ℕ) (i : ℕ) {m : ℕ} → span_at b i ≡ m → Place b i → 1 ≤ children_of (kind_at b i) → (span_at b (i + 1) < m) × Place b (i + 1)
-down b i e p h = (omega (arith, down-falls b i p h), down-place b i p h)
-
-pub next : (b : List ℕ) (i : ℕ) {m j : ℕ} → span_at b i ≡ m → Place b i → 2 ≤ children_of (kind_at b i) → j ≡ second_at b i → (span_at b j < m) × Place b j
-next b i e p h q = rw q (omega (arith, next-falls b i p h), next_place b i p h)
-
 -- record 0 spans the table
 pub root-span : (b : List ℕ) → Place b 0 → span_at b 0 ≡ records_of b
 root-span b p = eqb→eq (span_at b 0) (records_of b) (both_right (span_fits (row_at b 0).children b (records_of b) 0) (not (eqb 0 0) || eqb (span_at b 0) (records_of b)) (p.shape 0 p.inside))

@@ -1,5 +1,6 @@
 -- A place of a table whose shape is right, and the tree that stands there.
-use Rattle.std.specs.Prelude.{◌≡◌, List, ℕ, zero, suc, ◌+◌, ◌*◌, ◌<◌, T}
+use Rattle.std.specs.Prelude.{◌≡◌, List, ℕ, zero, suc, ◌+◌, ◌*◌, ◌<◌, ◌≤◌, T}
+use Rattle.rules.specs.Limits.{most_records}
 use Rattle.rules.specs.Tree.{Tree, Act, Source, Par, act_kind, by_source, by_par, nop, act, await, emit, break, ifvar, seq, loop, every, par, fin}
 use Rattle.rules.specs.Table.{byte_at, kind_at, name_at, span_at, number_at, second_at, tree_at, records_of, shape_right}
 
@@ -15,6 +16,11 @@ Shape b = (j : ℕ) → j < records_of b → T (shape_right b (records_of b) j)
 pub record Place (b : List ℕ) (i : ℕ) : Type 0 where
   pub shape : Shape b
   pub inside : i < records_of b
+
+-- a place of a table that is no longer than one may be
+pub record Spot (b : List ℕ) (i : ℕ) : Type 0 where
+  pub place : Place b i
+  pub small : records_of b ≤ most_records
 
 -- the tree at a place
 unfoldable pub tree_of : List ℕ → ℕ → Tree

@@ -1,27 +1,13 @@
 // The running totals, lent by the caller: reactions and steps, 64 bits each, stopping at the largest value.
 #![tactic(auto)]
 
-ghost use Rattle.std.specs.Prelude.{◌≡◌};
-ghost use Rattle.totals.specs.Sum.{add_total, Counted};
-
-use rules::Limits;
+ghost use Rattle.totals.specs.Sum.{Counted};
 
 #[repr(C)]
-#[derive(Clone, Copy)]
+#[derive(Clone, Copy, Debug, PartialEq, Eq)]
 pub struct Totals {
     pub reactions: u64,
     pub steps: u64,
-}
-
-// A total and what is added to it, stopping at the largest value.
-fn add(total: u64, more: u64) -> u64
-    ensures { result ≡ add_total total more }
-{
-    if more > Limits::TOP_TOTAL - total {
-        Limits::TOP_TOTAL
-    } else {
-        total + more
-    }
 }
 
 impl Totals {
@@ -29,14 +15,14 @@ impl Totals {
         ensures { Counted self reactions steps result }
     {
         Totals {
-            reactions: add(self.reactions, reactions),
-            steps: add(self.steps, steps),
+            reactions: self.reactions.saturating_add(reactions),
+            steps: self.steps.saturating_add(steps),
         }
     }
-}
 
-pub fn count(totals: &mut Totals, reactions: u64, steps: u64)
-    ensures { Counted totals.old reactions steps totals.new }
-{
-    *totals = totals.with(reactions, steps);
+    pub fn count(&mut self, reactions: u64, steps: u64)
+        ensures { Counted self.old reactions steps self.new }
+    {
+        *self = self.with(reactions, steps);
+    }
 }

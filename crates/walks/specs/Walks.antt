@@ -1,23 +1,20 @@
--- The walks of the theory over the arrays of the code, and what the contracts of the walks are said with.
-use Rattle.std.specs.Prelude.{◌≡◌, Bool, true, false, ◌||◌, ◌&&◌, List, ◌⊎◌, ℕ, ◌≤◌, eqb, ltb, ℤ, if◌then◌else◌}
-use Rattle.rules.specs.Limits.{most_records}
-use Rattle.rules.specs.Tree.{Source, input, internal, Par, and, or, by_source}
-use Rattle.rules.specs.Table.{name_at, number_at, records_of}
+-- The walks of the theory over the memory of the code, and what the contracts of the walks are said with.
+use Rattle.std.specs.Prelude.{◌≡◌, Bool, ◌||◌, ◌&&◌, List, ℕ, eqb}
+use Rattle.rules.specs.Tree.{by_source}
 use Rattle.rules.specs.Step.{Event}
-use Rattle.theory.specs.State.{Ops, How, idle, ended, broke, waiting, ringing, walk, Then, exec_loop}
-use Rattle.table.specs.Places.{Place}
-use Rattle.memory.specs.Arrays.{Arrays, arrays, tick, acts, kind_acts, is_nonzero}
-use Rattle.walks.specs.declared.How as code
-use Rattle.walks.specs.declared.How.TheVariants.{Idle, Ended, Broke, Waiting, Ringing}
+use Rattle.theory.specs.State.{Ops, How, idle, ended, broke, waiting, ringing, Walk, walk, Swept, swept, exec_loop}
+use Rattle.table.specs.Named.{source_of}
+use Rattle.table.specs.declared.kind.Source.{Source}
+use Rattle.memory.specs.Arrays.{Arrays, tick, acts, is_nonzero}
+use Rattle.memory.specs.Acts.{arrays_of}
+use Rattle.memory.specs.declared.effects.Memory.{Memory}
+use Rattle.walks.specs.declared.running.How as code
+use Rattle.walks.specs.declared.running.How.TheVariants.{Idle, Ended, Broke, Waiting, Ringing}
+use Rattle.walks.specs.declared.running.Running.{Running}
 
 -- what the walks ask of a memory, of the arrays; an emit itself changes none of them
 abbrev pub array_ops : Ops Arrays
 array_ops = record { tick = tick; acts = acts; rings = λ e y a. a; test = λ v a. is_nonzero a v }
-
--- a place of a table that the states have room for
-pub record Spot (b : List ℕ) (i : ℕ) : Type 0 where
-  pub place : Place b i
-  pub small : records_of b ≤ most_records
 
 -- how a walk of the code ended
 abbrev pub how_of : code.How → How
@@ -27,51 +24,28 @@ how_of Broke = broke
 how_of Waiting = waiting
 how_of (Ringing e) = ringing e
 
--- ---- flags and kinds
+-- what a walk left, and what a clear did
+abbrev pub left : code.How → Running → List ℕ → Walk Arrays
+left h run out = walk (how_of h) run.states (arrays_of run.memory out)
 
-abbrev pub source_of : Bool → Source
-source_of true = input
-source_of false = internal
+abbrev pub cleared : Bool → Running → List ℕ → Swept Arrays
+cleared lived run out = swept lived run.states (arrays_of run.memory out)
 
-abbrev pub event_from : Bool → ℕ → Event
-event_from b e = record { source = source_of b; name = e }
+-- ---- events
 
-abbrev pub par_of : Bool → Par
-par_of true = and
-par_of false = or
-
-abbrev pub par_kind : Bool → ℕ
-par_kind true = 17
-par_kind false = 18
-
--- an if or a sequence
-abbrev pub EitherKind : ℕ → Type 0
-EitherKind k = (k ≡ 12) ⊎ (k ≡ 13)
-
--- ---- records by their kind
+abbrev pub event_from : Source → ℕ → Event
+event_from s e = record { source = source_of s; name = e }
 
 -- kinds 8 and 15 wait for input, 9 and 16 for internal events
-unfoldable pub waits : ℕ → Bool → Bool
-waits k b = eqb k (by_source (source_of b) 8) || eqb k (by_source (source_of b) 15)
+unfoldable pub waits : ℕ → Source → Bool
+waits k s = eqb k (by_source (source_of s) 8) || eqb k (by_source (source_of s) 15)
 
--- does a record of kind k and name v wait for event e, of input or not?
-unfoldable pub hears : ℕ → ℕ → Bool → ℕ → Bool
+-- does a record of kind k and name v wait for event e of this source?
+unfoldable pub hears : ℕ → ℕ → Source → ℕ → Bool
 unfolding waits
-hears k v b e = waits k b && eqb e v
+hears k v s e = waits k s && eqb e v
 
--- what a record without children does at once
-unfoldable pub leaf_runs : List ℕ → ℕ → ℕ → Arrays → Arrays
-unfolding tick kind_acts
-leaf_runs b i k m = if eqb k 0 then m else (if ltb k 8 then tick (kind_acts k (name_at b i) (number_at b i) m) else m)
+-- ---- what a call promises that is lent the memory alone: with any states and any output room
 
--- ---- parts of an and or or
-
--- a fresh one whose left has ended at once; `right` begins its right
-abbrev pub left_ended : Bool → Then Arrays → Then Arrays
-left_ended true right l m = right l (tick (tick (tick m)))
-left_ended false right l m = walk ended l (tick m)
-
--- ---- what a call promises that is lent some of the arrays only: with any others
-
-abbrev pub AfterBody : code.How → List ℕ → code.How → List ℕ → Type 0
-AfterBody h c h' c' = (l : List ℕ) (v : List ℤ) (o : List ℕ) → walk (how_of h') l (arrays v o c') ≡ exec_loop array_ops (how_of h) (walk (how_of h) l (arrays v o c))
+abbrev pub AfterBody : code.How → Memory → code.How → Memory → Type 0
+AfterBody h m h' m' = (l o : List ℕ) → walk (how_of h') l (arrays_of m' o) ≡ exec_loop array_ops (how_of h) (walk (how_of h) l (arrays_of m o))

@@ -5,17 +5,10 @@ pub mod clear;
 pub mod exec;
 mod listeners;
 pub mod part;
+mod running;
 pub mod settle;
 pub mod wake;
 
-pub use listeners::{heard_before, heard_from, listen};
-
-// How a walk ended: nothing lived there; it has ended, broken, is blocked, or has an event pending.
-#[derive(Drop)]
-pub enum How {
-    Idle,
-    Ended,
-    Broke,
-    Waiting,
-    Ringing(usize),
-}
+pub use listeners::Listeners;
+pub use part::Reach;
+pub use running::{How, Running};

@@ -1,26 +1,47 @@
 // A construct's part that has all places of a range.
-ghost use Rattle.walks.specs.Listening.{PartWith};
-ghost use Rattle.walks.specs.Walks.{Spot};
+ghost use Rattle.std.specs.Prelude.{◌≡◌, ◌<◌};
+ghost use Rattle.rules.specs.Limits.{most_records};
+ghost use Rattle.walks.specs.Listening.{PartWith, widened};
 
-use table::{children_at, kind_at, second_at};
+use table::{Construct, Kind};
 
-// The place itself where no part has them all.
-pub fn part_with(table: &[u8], i: usize, from: usize, to: usize) -> usize
-    requires { Spot table.now i }
-    ensures { PartWith table.now i from to result }
+// The places from one on and before another.
+#[derive(Clone, Copy, Debug, PartialEq, Eq)]
+pub struct Reach {
+    pub from: usize,
+    pub to: usize,
+}
+
+impl Reach {
+    // One more place.
+    pub(crate) fn widened(self, place: usize) -> Reach
+        requires { place < most_records }
+        ensures { result ≡ widened place self }
+    {
+        Reach {
+            from: self.from.min(place),
+            to: self.to.max(place + 1),
+        }
+    }
+}
+
+// The construct itself where no part has them all.
+pub fn part_with<'a>(at: Construct<'a>, reach: Reach) -> Construct<'a>
+    ensures table { result.table.now ≡ at.entry.table.now }
+    ensures part { PartWith at.entry.table.now at.entry.place reach result.place }
 {
-    if kind_at(table, i) == 14 {
-        return i + 1;
+    match at.kind() {
+        Kind::Loop => at.first(),
+        Kind::If | Kind::Sequence | Kind::Par(_) => {
+            let second = at.second();
+            if reach.to <= second.place {
+                return at.first();
+            }
+            if second.place <= reach.from {
+                return second;
+            }
+            at
+        }
+        _ => at,
     }
-    if children_at(table, i) != 2 {
-        return i;
-    }
-    let j = second_at(table, i);
-    if to <= j {
-        return i + 1;
-    }
-    if j <= from {
-        return j;
-    }
-    i
 }

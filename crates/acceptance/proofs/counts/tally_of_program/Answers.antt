@@ -1,10 +1,11 @@
--- The whole program is the row from place 0 to the end.
-use Rattle.std.proofs.Common.{refl}
-use Rattle.acceptance.proofs.Announcing.{whole_row, whole-tally}
+-- A program has at most 256 records, so that no count stops.
+use Rattle.std.proofs.Common.{◌∙◌, ap, arith}
+use Rattle.acceptance.specs.Counts.{counted}
+use Rattle.acceptance.proofs.Tallies.{same_tally, whole_tally}
+use Rattle.acceptance.proofs.Visiting.{visits-most}
 use Rattle.acceptance.proofs.counts.tally_of_program.Goals as goal
 
-pub count_from-right-requires : goal.count_from-right-requires
-count_from-right-requires c = whole_row c.args.table.now c.requires.place refl
-
 pub returns : goal.returns
-returns c = whole-tally c.args.table.now c.requires.place c.requires.table_bound refl c.count_from-right.ensures
+returns c =
+    let d = c.default.ensures in
+    c.count.ensures ∙ (ap (λ vs. counted vs c.default.result) c.of.ensures.walk ∙ whole_tally _ (omega (arith, visits-most c.args.program c.requires)) (same_tally d.0 d.1.0 d.1.1.0 d.1.1.1))

@@ -1,9 +1,8 @@
--- The program is the tree at place 0, with nothing around it.
-use Rattle.std.proofs.Common.{ap, ◌∙◌}
-use Rattle.acceptance.specs.Walks.{first, fails_of}
-use Rattle.acceptance.proofs.Announcing.{whole-walk}
+-- The walk from the program on is that of the rules.
+use Rattle.std.proofs.Common.{◌∙◌, ap}
+use Rattle.rules.specs.Check.{hits}
+use Rattle.table.specs.Found.{first_of}
 use Rattle.acceptance.proofs.walks.first_of_program.Goals as goal
 
-pub returns : goal.returns
-unfolding first
-returns c = (c.first_node.ensures.0 ∙ ap (first (fails_of c.args.stage)) (whole-walk c.args.table.now c.nothing.ensures), c.first_node.ensures.1)
+pub returns-clause-found : goal.returns-clause-found
+returns-clause-found g c = λ f h. c.first_within.ensures.found f h ∙ ap (λ vs. first_of (hits f vs)) c.of.ensures.walk

@@ -1,10 +1,7 @@
--- `store_marks` copies the states of the records: the loop has copied the first i.
-use Rattle.std.proofs.Common.{◌≡◌, ◌≤◌, ◌-◌, length}
+-- `store_marks` copies the states of the records: the loop has copied those before the place.
+use Rattle.std.proofs.Common.{◌≡◌}
 use Rattle.calls.proofs.Copying.{copied}
 use Rattle.calls.proofs.hold.store_marks.Given as goal
 
-abbrev pub invariant-loop-i : goal.invariant-loop-i
-invariant-loop-i l = (l.i ≤ length l.fn.marks) × (l.marks ≡ copied l.i l.st l.fn.marks)
-
-abbrev pub decreases-loop-i : goal.decreases-loop-i
-decreases-loop-i l = length l.fn.marks - l.i
+abbrev pub invariant-loop-place : goal.invariant-loop-place
+invariant-loop-place l = l.marks ≡ copied l.place l.states l.fn.marks

@@ -1,19 +1,15 @@
 -- From part to part, and the places are written down.
-use Rattle.std.proofs.Common.{◌+◌, ◌<◌, length, arith, ◌∙◌, length-set}
-use lib.Seq.{get_or-set_same}
-use Rattle.engine.specs.Parts.{Step}
-use Rattle.engine.proofs.Parts.{way_on, part_step}
+use Rattle.std.proofs.Common.{◌∙◌}
+use Rattle.engine.proofs.Parts.{way_on}
 use Rattle.engine.proofs.part.down.Goals as goal
 
-pub loop-i-preserved : goal.loop-i-preserved
-loop-i-preserved c =
-    let p = c.loop-i.path in
-    let d = c.loop-i.steps in
-    let s : Step c.args.table.now c.args.st.now c.args.from c.args.to c.loop-i.i c.part_of-k.result = part_step _ _ c.part_of-k.ensures c.if-k-i.false in
-    let room : d + 1 < length p = omega (arith, s.below, s.place.inside, c.loop-i.invariant.0.small) in (
-      record { place = s.place; small = c.loop-i.invariant.0.small },
-      omega (arith, s.below),
-      length-set p (d + 1) _ ∙ c.loop-i.invariant.2,
-      get_or-set_same p (d + 1) _ 0 room,
-      way_on c.args.table.now c.args.st.now c.args.from c.args.to p d c.loop-i.i _ room c.loop-i.invariant.4 c.loop-i.invariant.3 s,
-    )
+pub loop-at-preserved : goal.loop-at-preserved
+loop-at-preserved c =
+    let i = c.loop-at.invariant in
+    let p = c.push.ensures in
+    record {
+      table = c.in-Some.ensures.table ∙ i.table;
+      path_table = p.table ∙ i.path_table;
+      end = p.end;
+      way = way_on _ _ _ c.loop-at.path.places _ _ _ _ _ p.steps p.end p.kept i.way i.end (rw i.table at c.in-Some.ensures.step);
+    }

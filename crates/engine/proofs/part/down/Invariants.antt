@@ -1,13 +1,15 @@
--- The way so far ends at place i.
-use Rattle.std.proofs.Common.{◌≡◌, ◌-◌, ◌≤◌, length, get_or}
-use Rattle.rules.specs.Table.{records_of}
-use Rattle.walks.specs.Walks.{Spot}
+-- The way so far ends at the construct.
+use Rattle.std.proofs.Common.{◌≡◌, ◌-◌, ◌≤◌, get_or}
 use Rattle.engine.specs.Parts.{Way}
 use Rattle.engine.proofs.part.down.Given as goal
 
-abbrev pub invariant-loop-i : goal.invariant-loop-i
-invariant-loop-i l =
-    Spot l.table l.i × (l.steps ≤ l.i) × (length l.path ≡ 256) × (get_or l.path l.steps 0 ≡ l.i) × Way l.table l.st l.from l.to l.path l.steps
+abbrev pub invariant-loop-at : goal.invariant-loop-at
+invariant-loop-at l = record {
+  table : l.at.table.now ≡ l.program.table.now;
+  path_table : l.path.table.now ≡ l.program.table.now;
+  end : get_or l.path.places l.path.steps 0 ≡ l.at.place;
+  way : Way l.program.table.now l.states l.reach l.path.places l.path.steps;
+}
 
-abbrev pub decreases-loop-i : goal.decreases-loop-i
-decreases-loop-i l = records_of l.table - l.i
+abbrev pub decreases-loop-at : goal.decreases-loop-at
+decreases-loop-at l = l.reach.from - l.at.place

@@ -1,15 +1,17 @@
 -- What is left to do gives what the whole gives; the level and the events emitted are at most the turns taken.
-use Rattle.std.proofs.Common.{◌≡◌, ◌+◌, ◌≤◌}
+use Rattle.std.proofs.Common.{◌≡◌, ◌+◌, ◌-◌, ◌≤◌}
 use Rattle.theory.specs.Round.{rounds}
-use Rattle.table.specs.Places.{tree_of}
-use Rattle.memory.specs.Arrays.{arrays}
+use Rattle.table.specs.Constructs.{tree}
+use Rattle.memory.specs.Acts.{arrays_of}
 use Rattle.walks.specs.Walks.{array_ops}
+use Rattle.engine.specs.Running.{event_number, Named}
 use Rattle.engine.proofs.round.rounds.Given as goal
 
-abbrev pub invariant-loop-left : goal.invariant-loop-left
-invariant-loop-left l =
-    (1 ≤ l.level) × (l.level + l.left ≤ l.most + 1) × (l.emitted + l.left ≤ l.most)
-    × (rounds array_ops (tree_of l.table 0) l.left l.event l.level l.emitted l.highest l.st (arrays l.vars l.out l.counts) ≡ rounds array_ops (tree_of l.table 0) l.most l.first 1 0 1 l.fn.st (arrays l.fn.vars l.fn.out l.fn.counts))
-
-abbrev pub decreases-loop-left : goal.decreases-loop-left
-decreases-loop-left l = l.left
+abbrev pub invariant-loop : goal.invariant-loop
+invariant-loop l = record {
+  named : Named l.event;
+  level : 1 ≤ l.level;
+  turns : l.level ≤ l.counter + 1;
+  pushes : l.emitted ≤ l.counter;
+  outcome : rounds array_ops (tree l.program) (l.most - l.counter) (event_number l.event) l.level l.emitted l.highest l.run.states (arrays_of l.run.memory l.out) ≡ rounds array_ops (tree l.program) l.most (event_number l.fn.first) 1 0 1 l.fn.run.states (arrays_of l.fn.run.memory l.fn.out);
+}

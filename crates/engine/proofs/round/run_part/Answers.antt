@@ -1,20 +1,25 @@
 -- The part at the end of the way runs, then what stands above it; where nothing runs, or the part is blocked, so is the program.
 use Rattle.std.proofs.Common.{◌∙◌, sym}
-use Rattle.engine.proofs.Parts.{way-along, way-path, none_runs}
+use Rattle.table.specs.Places.{Spot}
+use Rattle.engine.proofs.Parts.{way-path, none_runs}
 use Rattle.engine.proofs.Climbing.{path-still, onward-blocked, onward-climbs}
 use Rattle.engine.proofs.round.run_part.Goals as goal
 
-pub returns-then-to-from : goal.returns-then-to-from
-returns-then-to-from c =
-    sym (onward-blocked _ _ _ _ (none_runs c.args.table.now c.args.st.now _ _ _ c.requires.spot.place c.requires.level_bound.1 c.if-to-from.true))
+pub returns-then-reach-clause-left : goal.returns-then-reach-clause-left
+returns-then-reach-clause-left c =
+    let root : Spot c.args.program.table.now 0 = rw c.requires.root at c.args.program.stands in
+    rw c.requires.root (sym (onward-blocked _ _ _ _ (none_runs c.args.program.table.now c.args.run.now.states _ _ root.place c.requires.runs c.if-reach.true)))
 
-pub returns-then-blocked : goal.returns-then-blocked
-returns-then-blocked c =
-    sym (onward-blocked _ _ _ _ (path-still c.args.table.now _ _ _ (way-path c.args.table.now c.args.st.now _ _ _ c.requires.level_bound.1 c.down-steps.ensures.1) (sym c.blocked.ensures ∙ c.if-blocked.true)))
+pub returns-then-blocked-clause-left : goal.returns-then-blocked-clause-left
+returns-then-blocked-clause-left c =
+    let way = way-path c.args.program.table.now c.args.run.now.states _ _ _ c.requires.runs c.down-path.ensures.way in
+    let still = rw (c.end-part.ensures.table, c.end-part.ensures.place, c.down-path.ensures.table, c.turn_of-n.ensures) at (sym c.blocked.ensures ∙ c.if-blocked.true) in
+    rw c.requires.root (sym (onward-blocked _ _ _ _ (path-still c.args.program.table.now _ _ _ way still)))
 
-pub climb-end-requires : goal.climb-end-requires
-climb-end-requires c = (c.down-steps.ensures.0, way-along c.args.table.now c.args.st.now _ _ c.requires.spot c.down-steps.ensures.1)
-
-pub returns : goal.returns
-returns c =
-    onward-climbs _ _ c.requires.spot _ _ (c.climb-end.ensures _ _ (way-path c.args.table.now c.args.st.now _ _ _ c.requires.level_bound.1 c.down-steps.ensures.1) c.resume-how.ensures) c.event_of.ensures
+pub returns-clause-left : goal.returns-clause-left
+returns-clause-left c =
+    let root : Spot c.args.program.table.now 0 = rw c.requires.root at c.args.program.stands in
+    let way = way-path c.args.program.table.now c.args.run.now.states _ _ _ c.requires.runs c.down-path.ensures.way in
+    let part = rw (c.end-part.ensures.table, c.end-part.ensures.place, c.down-path.ensures.table, c.turn_of-n.ensures) at c.resume-how.ensures in
+    let all = rw (c.down-path.ensures.table, c.turn_of-n.ensures) at c.climb.ensures in
+    rw c.requires.root (onward-climbs _ _ root _ _ (all _ _ way part) c.pending.ensures.event)

@@ -1,34 +1,25 @@
 -- What the marks say of a construct, by its kind and its children.
-use Rattle.std.proofs.Common.{sym, ap, ◌∙◌, arith}
-use Rattle.table.specs.Kinds.{children_of}
-use Rattle.table.proofs.Places.{down-place}
-use Rattle.marks.proofs.Seeing.{down-spot, next-spot, sees-waiting, sees-leaf, sees-loop, sees_both}
+use Rattle.std.proofs.Common.{sym}
+use Rattle.marks.proofs.Seeing.{sees-waiting, sees-leaf, sees-loop, sees-two}
 use Rattle.marks.proofs.fitting.+see.Goals as goal
 
-pub returns-then-may_mark : goal.returns-then-may_mark
-returns-then-may_mark t c = (sym (sees-waiting _ _ _ c.requires.place c.kind_at-kind.ensures.0 (sym c.if-may_mark.ensures)), tt)
+pub returns-in-Await-clause-seen : goal.returns-in-Await-clause-seen
+returns-in-Await-clause-seen t c = rw c.is_marked.ensures (sym (sees-waiting _ _ _ c.kind-kind.ensures c.in-Await.is))
 
-pub returns-then-children-eq0 : goal.returns-then-children-eq0
-returns-then-children-eq0 t c =
-    (sym (sees-leaf _ _ _ c.requires.place c.kind_at-kind.ensures.0 (sym c.if-may_mark.ensures) (sym c.children_of-children.ensures.0 ∙ c.if-children-eq0.true)), tt)
+pub returns-in-If-clause-seen : goal.returns-in-If-clause-seen
+returns-in-If-clause-seen t c = let e = sees-two _ c.args.at.marks.now _ c.kind-kind.ensures c.in-If.is in cc
 
-pub see-left-requires : goal.see-left-requires
-see-left-requires t c = down-spot _ _ _ c.decreases c.requires (omega (arith, c.children_of-children.ensures.0, ap children_of c.kind_at-kind.ensures.0))
+pub returns-in-Loop-clause-seen : goal.returns-in-Loop-clause-seen
+returns-in-Loop-clause-seen t c = let e = sees-loop _ c.args.at.marks.now _ c.kind-kind.ensures c.in-Loop.is in cc
 
-pub returns-then-children-eq1 : goal.returns-then-children-eq1
-returns-then-children-eq1 t c = (
-  c.see-left.ensures.0 ∙ sym (sees-loop _ _ _ c.requires.place c.kind_at-kind.ensures.0 (sym c.if-may_mark.ensures) (sym c.children_of-children.ensures.0 ∙ c.if-children-eq1.true)),
-  c.see-left.ensures.1,
-)
-
-pub second_at-next-requires : goal.second_at-next-requires
-second_at-next-requires t c = (down-place _ _ c.requires.place (omega (arith, c.children_of-children.ensures.0, ap children_of c.kind_at-kind.ensures.0))).inside
-
-pub see-right-requires : goal.see-right-requires
-see-right-requires t c = next-spot _ _ _ c.decreases c.requires (omega (arith, c.children_of-children.ensures.0, ap children_of c.kind_at-kind.ensures.0)) c.second_at-next.ensures
-
-pub returns : goal.returns
-returns t c =
-    sees_both _ _ _ c.requires.place c.kind_at-kind.ensures.0 (sym c.if-may_mark.ensures)
-    (λ z. c.if-children-eq0.false (c.children_of-children.ensures.0 ∙ z)) (λ z. c.if-children-eq1.false (c.children_of-children.ensures.0 ∙ z))
-    c.second_at-next.ensures c.see-left.ensures c.see-right.ensures c.join_seen.ensures
+pub returns-in_default-clause-seen : goal.returns-in_default-clause-seen
+returns-in_default-clause-seen t c =
+    sym (sees-leaf _ _ _ c.kind-kind.ensures (record {
+      no_await = c.in_default.not-Await;
+      no_every = c.in_default.not-Every;
+      no_fin = c.in_default.not-Fin;
+      no_if = c.in_default.not-If;
+      no_sequence = c.in_default.not-Sequence;
+      no_par = c.in_default.not-Par;
+      no_loop = c.in_default.not-Loop;
+    }))

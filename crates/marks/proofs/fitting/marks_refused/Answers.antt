@@ -2,11 +2,11 @@
 use Rattle.marks.proofs.Seeing.{refuses-length, refuses-mark, refuses-misfit}
 use Rattle.marks.proofs.fitting.marks_refused.Goals as goal
 
-pub returns-then-marks-table : goal.returns-then-marks-table
-returns-then-marks-table c = (refuses-length _ _ c.if-marks-table.true, c.requires.inside)
+pub returns-then-marks-table-clause-refused : goal.returns-then-marks-table-clause-refused
+returns-then-marks-table-clause-refused c = refuses-length _ _ c.if-marks-table.true
 
-pub returns-in-At : goal.returns-in-At
-returns-in-At c = refuses-mark _ _ c.if-marks-table.false c.first_mark-first.ensures.0 c.first_mark-first.ensures.1 c.in-At.is
+pub returns-in-None-clause-refused : goal.returns-in-None-clause-refused
+returns-in-None-clause-refused c = refuses-misfit _ _ c.if-marks-table.false c.in-None.ensures.first c.see.ensures.seen
 
-pub returns-in-Nothing : goal.returns-in-Nothing
-returns-in-Nothing c = (refuses-misfit _ _ c.if-marks-table.false c.first_mark-first.ensures.0 c.in-Nothing.is c.see-seen.ensures.0, c.see-seen.ensures.1)
+pub returns-in_default-clause-refused : goal.returns-in_default-clause-refused
+returns-in_default-clause-refused c = refuses-mark _ _ c.if-marks-table.false _ c.first_mark.ensures.first c.in_default.not-None

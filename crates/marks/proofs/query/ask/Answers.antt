@@ -6,7 +6,7 @@ use Rattle.marks.proofs.Hearing.{awaited-number, awaited-lowest}
 use Rattle.marks.proofs.query.ask.Goals as goal
 
 pub returns : goal.returns
-returns c = (
-  c.number_of.ensures ∙ (ap ones c.awaited-set.ensures ∙ awaited-number _),
-  c.lowest_of.ensures ∙ (ap lowest_bit c.awaited-set.ensures ∙ awaited-lowest _),
-)
+returns c = record {
+  number = c.number_of.ensures ∙ (ap ones c.awaited-set.ensures ∙ awaited-number _);
+  lowest = c.lowest_of.ensures ∙ (ap lowest_bit c.awaited-set.ensures ∙ awaited-lowest _);
+}

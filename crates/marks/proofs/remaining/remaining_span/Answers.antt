@@ -1,14 +1,11 @@
 -- What remains of the whole program.
 use Rattle.std.proofs.Common.{arith}
 use Rattle.marks.proofs.Seeing.{sized}
-use Rattle.marks.proofs.WholeProgram.{span-nothing, span-something}
+use Rattle.marks.proofs.WholeProgram.{most-rest}
 use Rattle.marks.proofs.remaining.remaining_span.Goals as goal
 
-pub rests_of-rests-requires-clause-spot : goal.rests_of-rests-requires-clause-spot
-rests_of-rests-requires-clause-spot c = record { place = c.requires.sound.root; sized = sized _ _ c.requires.marks_value }
+pub invariant_of-program : goal.invariant_of-program
+invariant_of-program c = record { stands = record { place = c.requires.sound.root; sized = sized _ _ c.requires.passes } }
 
-pub returns-then-span-eq0 : goal.returns-then-span-eq0
-returns-then-span-eq0 c = (span-nothing _ _ _ c.requires.sound c.rests_of-rests.ensures c.wide-span.ensures.0 c.if-span-eq0.true, omega arith)
-
-pub returns : goal.returns
-returns c = (span-something _ _ _ c.requires.sound c.rests_of-rests.ensures c.wide-span.ensures.0 c.if-span-eq0.false, c.wide-span.ensures.1)
+pub returns-clause-records : goal.returns-clause-records
+returns-clause-records c = omega (arith, most-rest _ _ (rw c.of.ensures at c.count.ensures.records))

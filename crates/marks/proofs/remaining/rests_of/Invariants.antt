@@ -1,11 +1,6 @@
--- The places from i on are counted.
-use Rattle.std.proofs.Common.{◌≤◌}
-use Rattle.rules.specs.Table.{records_of}
+-- The places from here on are counted.
 use Rattle.marks.specs.Rest.{Rests}
 use Rattle.marks.proofs.remaining.rests_of.Given as goal
 
-abbrev pub invariant-loop-i : goal.invariant-loop-i
-invariant-loop-i l = (l.i ≤ records_of l.table) × Rests l.table l.marks l.i l.rests
-
-abbrev pub decreases-loop-i : goal.decreases-loop-i
-decreases-loop-i l = l.i
+abbrev pub invariant-loop-place : goal.invariant-loop-place
+invariant-loop-place l = Rests l.program.table.now l.program.marks.now l.place l.rests

@@ -1,23 +1,19 @@
 -- By the kind of the record, and where its right stands.
 use Rattle.std.proofs.Common.{arith}
 use Rattle.walks.specs.Listening.{itself, the-body, the-left, the-right}
-use Rattle.walks.proofs.Spots.{spot-down}
 use Rattle.walks.proofs.part.part_with.Goals as goal
 
-pub returns-then-kind_at-eq14 : goal.returns-then-kind_at-eq14
-returns-then-kind_at-eq14 c = the-body (omega arith)
+pub returns-in-Loop-clause-part : goal.returns-in-Loop-clause-part
+returns-in-Loop-clause-part c = rw c.first.ensures.place (the-body c.in-Loop.ensures.number)
 
-pub returns-then-children_at-ne2 : goal.returns-then-children_at-ne2
-returns-then-children_at-ne2 c = itself
+pub returns-then-reach-second-clause-part : goal.returns-then-reach-second-clause-part
+returns-then-reach-second-clause-part c = rw c.first-then-reach-second.ensures.place (the-left (grind arith) (omega arith))
 
-pub second_at-j-requires : goal.second_at-j-requires
-second_at-j-requires c = (spot-down _ _ c.requires (omega arith)).place.inside
+pub returns-then-second-reach-clause-part : goal.returns-then-second-reach-clause-part
+returns-then-second-reach-clause-part c = rw c.second-second.ensures.place (the-right (grind arith) (omega arith))
 
-pub returns-then-to-j : goal.returns-then-to-j
-returns-then-to-j c = the-left (omega arith) (omega arith)
+pub returns-else-second-reach-clause-part : goal.returns-else-second-reach-clause-part
+returns-else-second-reach-clause-part c = itself
 
-pub returns-then-j-from : goal.returns-then-j-from
-returns-then-j-from c = rw c.second_at-j.ensures (the-right (omega arith) (omega arith))
-
-pub returns : goal.returns
-returns c = itself
+pub returns-in_default-clause-part : goal.returns-in_default-clause-part
+returns-in_default-clause-part c = itself

@@ -1,7 +1,6 @@
 -- The span falls at each call.
-use Rattle.std.proofs.Common.{◌+◌, ◌*◌}
 use Rattle.rules.specs.Table.{span_at}
 use Rattle.walks.proofs.settle.+settle.Given as goal
 
 abbrev pub decreases-settle : goal.decreases-settle
-decreases-settle l = span_at l.table.now l.i * 3 + 2
+decreases-settle l = span_at l.at.table.now l.at.place

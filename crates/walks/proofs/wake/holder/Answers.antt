@@ -1,12 +1,14 @@
 -- `holder` goes down from part to part.
-use Rattle.std.proofs.Common.{arith}
-use Rattle.walks.proofs.Listening.{part-place, part-below, part-heard}
+use Rattle.std.proofs.Common.{arith, ap, ◌∙◌}
+use Rattle.rules.specs.Table.{records_of}
+use Rattle.walks.proofs.Listening.{part-below, part-heard}
 use Rattle.walks.proofs.wake.holder.Goals as goal
 
-pub loop-i-preserved : goal.loop-i-preserved
-loop-i-preserved c =
-    (record { place = part-place _ _ c.loop-i.invariant.0.place c.part_with-k.ensures; small = c.loop-i.invariant.0.small }, part-heard _ _ c.loop-i.invariant.0.place c.part_with-k.ensures c.loop-i.invariant.1)
+pub loop-at-preserved : goal.loop-at-preserved
+loop-at-preserved c = record {
+  same = c.part_with-part.ensures.table ∙ c.loop-at.invariant.same;
+  heard = rw c.part_with-part.ensures.table (part-heard _ _ c.loop-at.at.stands.place c.part_with-part.ensures.part c.loop-at.invariant.heard);
+}
 
-pub loop-i-smaller : goal.loop-i-smaller
-loop-i-smaller c =
-    omega (arith, part-below _ _ c.loop-i.invariant.0.place c.part_with-k.ensures c.if-k-i.false, (part-place _ _ c.loop-i.invariant.0.place c.part_with-k.ensures).inside)
+pub loop-at-smaller : goal.loop-at-smaller
+loop-at-smaller c = omega (arith, part-below _ _ c.loop-at.at.stands.place c.part_with-part.ensures.part c.if-part-at.false, c.part_with-part.result.stands.place.inside, ap records_of c.part_with-part.ensures.table)

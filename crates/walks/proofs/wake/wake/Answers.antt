@@ -3,5 +3,5 @@ use Rattle.std.proofs.Common.{sym}
 use Rattle.walks.proofs.Listening.{deaf-all}
 use Rattle.walks.proofs.wake.wake.Goals as goal
 
-pub returns-then-to-from : goal.returns-then-to-from
-returns-then-to-from c = sym (deaf-all _ _ _ _ _ c.requires.hear _ c.requires.spot.place _ c.if-to-from.true)
+pub returns-then-reach : goal.returns-then-reach
+returns-then-reach c = sym (deaf-all _ _ _ _ c.requires.hear _ c.args.program.stands.place _ c.if-reach.true)

@@ -1,0 +1,2 @@
+-- What a run lends to the calls.
+pub mod Lends

@@ -1,0 +1,77 @@
+// The kinds of records, by name. Kinds that differ in a flag are one case with the flag, as in the rules.
+ghost use Rattle.std.specs.Prelude.{◌≡◌};
+ghost use Rattle.table.specs.Named.{ReadsKind, children};
+
+use memory::Act;
+
+// Where an event comes from.
+#[derive(Clone, Copy, Debug, PartialEq, Eq)]
+pub enum Source {
+    Input,
+    Internal,
+}
+
+#[derive(Clone, Copy, Debug, PartialEq, Eq)]
+pub enum Par {
+    And,
+    Or,
+}
+
+#[derive(Clone, Copy, Debug, PartialEq, Eq)]
+pub enum Kind {
+    Nothing,
+    Act(Act),
+    Await(Source),
+    Emit,
+    Break,
+    If,
+    Sequence,
+    Loop,
+    Every(Source),
+    Par(Par),
+    Fin,
+}
+
+// A number over 19, which no kind has.
+#[derive(Clone, Copy, Debug, PartialEq, Eq)]
+pub struct NoKind(pub u8);
+
+impl TryFrom<u8> for Kind {
+    type Error = NoKind;
+
+    ghost try_from_gives = { ReadsKind };
+
+    fn try_from(number: u8) -> Result<Self, NoKind> {
+        if let Ok(act) = Act::try_from(number) {
+            return Ok(Kind::Act(act));
+        }
+        match number {
+            0 => Ok(Kind::Nothing),
+            8 => Ok(Kind::Await(Source::Input)),
+            9 => Ok(Kind::Await(Source::Internal)),
+            10 => Ok(Kind::Emit),
+            11 => Ok(Kind::Break),
+            12 => Ok(Kind::If),
+            13 => Ok(Kind::Sequence),
+            14 => Ok(Kind::Loop),
+            15 => Ok(Kind::Every(Source::Input)),
+            16 => Ok(Kind::Every(Source::Internal)),
+            17 => Ok(Kind::Par(Par::And)),
+            18 => Ok(Kind::Par(Par::Or)),
+            19 => Ok(Kind::Fin),
+            _ => Err(NoKind(number)),
+        }
+    }
+}
+
+impl Kind {
+    pub fn children(self) -> usize
+        ensures { result ≡ children self }
+    {
+        match self {
+            Kind::If | Kind::Sequence | Kind::Par(_) => 2,
+            Kind::Loop | Kind::Every(_) | Kind::Fin => 1,
+            _ => 0,
+        }
+    }
+}
