@@ -2,20 +2,20 @@
 -- Assumes nothing.
 use Rattle.std.specs.Prelude.{if◌then◌else◌}
 use mathlib.Core.Path.{◌≡◌, refl, sym, ap, ◌∙◌}
-use mathlib.Core.Bool.{Bool, true}
+use mathlib.Core.Bool.{true}
 use mathlib.Core.List.{List}
 use mathlib.Core.Logic.{◌⊎◌, inl, inr}
 use Prim.Native.Nat.{ℕ, zero, suc, ◌+◌, ◌-◌, ◌≤◌, ◌<◌}
 use native.Mathlib.Omega.{arith}
-use lib.Dec.{eqb, ltb}
+use lib.Dec.{eqb}
 use lib.ListN.{get_or}
 use Rattle.rules.specs.Tree.{Tree, Par, par}
 use Rattle.rules.specs.Table.{name_at, number_at, second_at}
-use Rattle.theory.specs.State.{How, Walk, walk, exec, resume_if, resume_seq, resume_loop, resume_both, resume_held, resume, still}
+use Rattle.theory.specs.State.{How, Walk, walk, exec, resume_both, resume_held, resume, still}
 use Rattle.theory.specs.Frame.{place_of, Laid, left-kept}
 use Rattle.theory.specs.Kept.{resume-kept}
 use Rattle.theory.specs.Round.{turn_of, event_of, heard, heard_of, onward}
-use Rattle.theory.specs.Part.{onward-runs, Stays, stays-waiting, stays-ringing, past_left, par_goes_on, goes_on, part-still, part-goes-on, part_stays}
+use Rattle.theory.specs.Part.{onward-runs, Stays, stays-waiting, stays-ringing, par_goes_on, goes_on, part-still, part-goes-on, part_stays}
 use Rattle.table.specs.Named.{children, node_of, par_of, Stands}
 use Rattle.table.specs.declared.kind.Par as code
 use Rattle.table.specs.declared.kind.Kind.{Kind}
