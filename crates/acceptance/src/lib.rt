@@ -44,14 +44,12 @@ fn check_records(table: &[u8]) -> Result<(), Refusal>
     ensures shape { IfOk result (λ u. Shape table.now) }
 {
     // One look at each record accepts; a stage at a time finds what is refused.
-    if records::spans_table(table)
-        && records::first_record(table, |i| records::record_fits(table, i)).is_none()
-    {
+    if records::spans_table(table) && walks::first_record(table, |record| record.fits()).is_none() {
         return Ok(());
     }
-    let shape = records::first_record(table, |i| records::shape_right(table, i));
+    let shape = walks::first_record(table, |record| record.shape_right());
     passed(Stage::Shape, shape)?;
-    let ranges = records::first_record(table, |i| records::record_fits(table, i));
+    let ranges = walks::first_record(table, |record| record.fits());
     passed(Stage::Ranges, ranges)
 }
 

@@ -1,6 +1,6 @@
 // A list of events. An event is laid out as a record of the table: its number at byte 0, its value at bytes 4 to 7.
-ghost use Rattle.std.specs.Prelude.{◌≡◌, ◌<◌};
-ghost use Rattle.rules.specs.Table.{kind_at, number_at, records_of};
+ghost use Rattle.std.specs.Prelude.{◌≡◌};
+ghost use Rattle.rules.specs.Table.{kind_at, number_at};
 ghost use Rattle.rules.specs.Lists.{list_call};
 ghost use Rattle.calls.specs.Answers.{Ran, lent};
 
@@ -12,24 +12,13 @@ use rules::Limits;
 use table::{Construct, Refusal, Stage};
 use walks::Listeners;
 
-// An event of a list.
-#[derive(Clone, Copy)]
-struct Event {
-    number: usize,
-    value: i32,
-}
-
-impl Event {
-    fn at(events: &[u8], place: usize) -> Event
-        requires { place < records_of events.now }
-        ensures number { result.number ≡ kind_at events.now place }
-        ensures value { result.value ≡ number_at events.now place }
-    {
-        Event {
-            number: usize::from(events[Limits::RECORD_BYTES * place]),
-            value: table::number_at(events, place),
-        }
-    }
+// The event of a record, and its value.
+fn sent(record: &[u8; Limits::RECORD_BYTES]) -> (usize, i32)
+    ensures event { result.0 ≡ kind_at record.now 0 }
+    ensures value { result.1 ≡ number_at record.now 0 }
+{
+    let [event, _, _, _, b0, b1, b2, b3] = *record;
+    (usize::from(event), i32::from_le_bytes([b0, b1, b2, b3]))
 }
 
 // Each event is taken while the room has the announced outputs behind those made.
@@ -50,14 +39,15 @@ pub fn run_list(
     let mut highest: u32 = 0;
     let mut taken: u64 = 0;
     let mut stopped = None;
-    for place in 0..events.len() / Limits::RECORD_BYTES {
+    let (records, _) = events.as_chunks::<{ Limits::RECORD_BYTES }>();
+    for (place, record) in records.iter().enumerate() {
         if !has_room(run.memory.outputs, announced.outputs, out) {
             stopped = Some(Refusal::at(Stage::Stopped, place));
             break;
         }
-        let Event { number, value } = Event::at(events, place);
+        let (event, value) = sent(record);
         run.memory.vars[0] = value;
-        let round = react(program, number, announced.steps, &listeners, &mut run, out);
+        let round = react(program, event, announced.steps, &listeners, &mut run, out);
         emitted += round.emitted;
         highest = highest.max(round.highest);
         taken += 1;

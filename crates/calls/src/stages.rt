@@ -92,19 +92,18 @@ pub fn react_stages(
 }
 
 // Event, three zeros.
-fn event_right(events: &[u8], i: usize) -> bool
-    requires { i < length events.now / record_bytes }
-    ensures { result ≡ event_right events.now i }
+fn event_right(record: &[u8; Limits::RECORD_BYTES]) -> bool
+    ensures { result ≡ event_right record.now 0 }
 {
-    let at = Limits::RECORD_BYTES * i;
-    is_event(u32::from(events[at])) && events[at + 1..at + 4] == [0, 0, 0]
+    matches!(record, [event, 0, 0, 0, ..] if is_event(u32::from(*event)))
 }
 
 // The first event that is not right.
 fn first_wrong(events: &[u8]) -> Option<usize>
     ensures { First (event_right events.now) (length events.now / record_bytes) result }
 {
-    (0..events.len() / Limits::RECORD_BYTES).find(|i| !event_right(events, *i))
+    let (records, _) = events.as_chunks::<{ Limits::RECORD_BYTES }>();
+    records.iter().position(|record| !event_right(record))
 }
 
 // The first bad record of a list, a broken last one included; 8192 for a list too long.

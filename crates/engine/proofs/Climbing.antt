@@ -2,21 +2,21 @@
 -- Assumes nothing.
 use Rattle.std.specs.Prelude.{if◌then◌else◌}
 use mathlib.Core.Path.{◌≡◌, refl, sym, ap, ◌∙◌}
-use mathlib.Core.Bool.{Bool, true}
+use mathlib.Core.Bool.{true}
 use mathlib.Core.List.{List}
 use mathlib.Core.Logic.{◌⊎◌, inl, inr}
 use Prim.Native.Nat.{ℕ, zero, suc, ◌+◌, ◌-◌, ◌≤◌, ◌<◌}
 use native.Mathlib.Omega.{arith}
-use lib.Dec.{eqb, ltb}
+use lib.Dec.{eqb}
 use lib.ListN.{get_or}
 use Rattle.rules.specs.Tree.{Tree, Par, par}
-use Rattle.rules.specs.Table.{second_at}
-use Rattle.theory.specs.State.{How, Walk, walk, exec, resume_if, resume_seq, resume_loop, resume_both, resume_held, resume, still}
+use Rattle.rules.specs.Table.{name_at, number_at, second_at}
+use Rattle.theory.specs.State.{How, Walk, walk, exec, resume_both, resume_held, resume, still}
 use Rattle.theory.specs.Frame.{place_of, Laid, left-kept}
 use Rattle.theory.specs.Kept.{resume-kept}
 use Rattle.theory.specs.Round.{turn_of, event_of, heard, heard_of, onward}
-use Rattle.theory.specs.Part.{onward-runs, Stays, stays-waiting, stays-ringing, past_left, par_goes_on, goes_on, part-still, part-goes-on, part_stays}
-use Rattle.table.specs.Named.{children, par_of, Stands}
+use Rattle.theory.specs.Part.{onward-runs, Stays, stays-waiting, stays-ringing, par_goes_on, goes_on, part-still, part-goes-on, part_stays}
+use Rattle.table.specs.Named.{children, node_of, par_of, Stands}
 use Rattle.table.specs.declared.kind.Par as code
 use Rattle.table.specs.declared.kind.Kind.{Kind}
 use Rattle.table.specs.declared.kind.Kind.TheVariants as kind
@@ -31,45 +31,14 @@ use Rattle.engine.specs.Parts.{Along, Path, Climbs}
 
 -- ---- by the kind of the construct
 
-module _ (b : List ℕ) (i : ℕ) (p : Spot b i) where
+module _ {b : List ℕ} {i : ℕ} {k : Kind} (s : Stands b i k) where
   -- where the right of a construct stands
-  second-place : {k : Kind} → Stands b i k → 2 ≤ children k → place_of (tree_of b (second_at b i)) ≡ second_at b i
-  second-place s c = place_at b (second_at b i) (next_place b i p.place (omega (arith, s.children)))
+  pub second_place : Spot b i → 2 ≤ children k → place_of (tree_of b (second_at b i)) ≡ second_at b i
+  second_place p c = place_at b (second_at b i) (next_place b i p.place (omega (arith, s.children)))
 
-  module _ (n k : ℕ) (r : Walk Arrays) where
-    pub goes-on-if : Stands b i kind.If → goes_on array_ops n k r (tree_of b i) ≡ (if ltb k (second_at b i) then resume_if array_ops r.how r (resume array_ops n (tree_of b (second_at b i))) else r)
-    unfolding goes_on
-    goes-on-if s = rw (s.tree, second-place s (omega arith))
-
-    pub goes-on-seq : Stands b i kind.Sequence → goes_on array_ops n k r (tree_of b i) ≡ (if ltb k (second_at b i) then resume_seq array_ops r.how r (resume array_ops n (tree_of b (second_at b i))) (exec array_ops n (tree_of b (second_at b i))) else r)
-    unfolding goes_on
-    goes-on-seq s = rw (s.tree, second-place s (omega arith))
-
-    pub goes-on-loop : Stands b i kind.Loop → goes_on array_ops n k r (tree_of b i) ≡ resume_loop array_ops r.how r (exec array_ops n (tree_of b (i + 1)))
-    unfolding goes_on
-    goes-on-loop s = rw s.tree
-
-    pub goes-on-par : {o : code.Par} → Stands b i (kind.Par o) → goes_on array_ops n k r (tree_of b i) ≡ (
-        if ltb k (second_at b i)
-        then par_goes_on array_ops n i (par_of o) (tree_of b (i + 1)) (tree_of b (second_at b i)) r
-        else past_left array_ops (par_of o) (tree_of b (i + 1)) r.how r (resume array_ops n (tree_of b (i + 1)))
-        )
-    unfolding goes_on
-    goes-on-par s = rw (s.tree, second-place s (omega arith))
-
-    pub goes-on-rest : (x : Kind) → Stands b i x → (x ≡ kind.If → ⊥) → (x ≡ kind.Sequence → ⊥) → (x ≡ kind.Loop → ⊥) → ((o : code.Par) → x ≡ kind.Par o → ⊥) → goes_on array_ops n k r (tree_of b i) ≡ r
-    unfolding goes_on
-    goes-on-rest kind.Nothing s x y z w = rw s.tree
-    goes-on-rest (kind.Act a) s x y z w = rw s.tree
-    goes-on-rest (kind.Await a) s x y z w = rw s.tree
-    goes-on-rest kind.Emit s x y z w = rw s.tree
-    goes-on-rest kind.Break s x y z w = rw s.tree
-    goes-on-rest kind.If s x y z w = absurd (x refl)
-    goes-on-rest kind.Sequence s x y z w = absurd (y refl)
-    goes-on-rest kind.Loop s x y z w = absurd (z refl)
-    goes-on-rest (kind.Every a) s x y z w = rw s.tree
-    goes-on-rest (kind.Par o) s x y z w = absurd (w o refl)
-    goes-on-rest kind.Fin s x y z w = rw s.tree
+  -- the construct goes on as the node of its kind
+  pub goes_on_node : (n j : ℕ) (r : Walk Arrays) → goes_on array_ops n j r (tree_of b i) ≡ goes_on array_ops n j r (node_of k i (name_at b i) (number_at b i) (tree_of b (i + 1)) (tree_of b (second_at b i)))
+  goes_on_node n j r = ap (λ (t : Tree). goes_on array_ops n j r t) s.tree
 
 fork-resumed : (n i : ℕ) (c : Par) (p q : Tree) (l : List ℕ) (m : Arrays) → Laid (par i c p q) → resume array_ops n (par i c p q) l m ≡ par_goes_on array_ops n i c p q (resume array_ops n p l m)
 unfolding resume Laid
@@ -78,8 +47,8 @@ fork-resumed n i c p q l m z =
     ap (λ (x : ℕ). if eqb x 0 then resume_both array_ops c p q r.how r (resume array_ops n q) else resume_held array_ops n i c p r.how r (exec array_ops n q)) (sym (left-kept z.0 (resume-kept array_ops n p z.1 l m)))
 
 -- an and or or is its left resumed, and then goes on: its own state is kept by its left
-pub resume-fork : (b : List ℕ) (i : ℕ) → Spot b i → (n : ℕ) (l : List ℕ) (m : Arrays) → {o : code.Par} → Stands b i (kind.Par o) → resume array_ops n (tree_of b i) l m ≡ par_goes_on array_ops n i (par_of o) (tree_of b (i + 1)) (tree_of b (second_at b i)) (resume array_ops n (tree_of b (i + 1)) l m)
-resume-fork b i p n l m s = rw s.tree (fork-resumed n i _ _ _ l m (rw s.tree at (laid-at b i p.place)))
+pub resume_fork : (b : List ℕ) (i : ℕ) → Spot b i → (n : ℕ) (l : List ℕ) (m : Arrays) → {o : code.Par} → Stands b i (kind.Par o) → resume array_ops n (tree_of b i) l m ≡ par_goes_on array_ops n i (par_of o) (tree_of b (i + 1)) (tree_of b (second_at b i)) (resume array_ops n (tree_of b (i + 1)) l m)
+resume_fork b i p n l m s = rw s.tree (fork-resumed n i _ _ _ l m (rw s.tree at (laid-at b i p.place)))
 
 -- ---- along the way
 

@@ -4,35 +4,33 @@ use mathlib.Core.Path.{◌≡◌, refl, sym, ap, ◌∙◌}
 use mathlib.Core.Bool.{Bool, true, false}
 use mathlib.Core.List.{List}
 use mathlib.Core.Logic.{◌⊎◌, inl, inr}
-use Prim.Native.Nat.{ℕ, zero, suc, ◌+◌, ◌-◌, ◌≤◌, ◌<◌}
+use Prim.Native.Nat.{ℕ, ◌+◌, ◌-◌, ◌≤◌, ◌<◌}
 use native.Mathlib.Omega.{arith}
 use lib.Dec.{eqb, ltb}
-use lib.ListN.{length, get_or, get_or-eq_default, set, take, drop}
-use lib.Seq.{get_or-set_same, get_or-set_other}
+use lib.ListN.{length, get_or, get_or-eq_default, drop}
 use Rattle.std.specs.Prelude.{slice_range}
-use Rattle.std.specs.List.{list_all}
 use Rattle.std.proofs.lemmas.List.{get_or-take, get_or-drop, length-take, length-drop}
 use Rattle.std.proofs.lemmas.List.Folds.{list_all_at}
-use borrow.Author.Tests.{eqb-true, eqb-false, eq-eqb, ne_eqb, lt-ltb, le-ltb, ltb-true, ltb-false}
+use borrow.Author.Tests.{eqb-true, eqb-false, lt-ltb, le-ltb, ltb-true, ltb-false}
 use Rattle.rules.specs.Tree.{Tree, Par, by_par, and, or, ifvar, seq, par}
 use Rattle.rules.specs.Table.{kind_at, name_at, span_at, second_at, records_of}
 use Rattle.theory.specs.Logic.{◌also◌}
 use Rattle.theory.specs.State.{still_at, still}
 use Rattle.theory.specs.Frame.{Blank}
-use Rattle.theory.specs.Still.{all-still, two}
+use Rattle.theory.specs.Still.{all-still}
 use Rattle.theory.specs.Part.{Only, loop-body, left-of-if, right-of-if, left-of-seq, right-of-seq, left-of-par, right-of-par}
 use Rattle.table.specs.Kinds.{children_of}
 use Rattle.table.specs.Named.{kind_number, children}
 use Rattle.table.specs.declared.kind.Par as code
 use Rattle.table.specs.declared.kind.Kind.{Kind}
 use Rattle.table.specs.declared.kind.Kind.TheVariants as kind
-use Rattle.table.specs.Places.{Place, Spot, tree_of}
+use Rattle.table.specs.Places.{Place, tree_of}
 use Rattle.table.proofs.Places.{children-from, root-span, span_pos, down-place, next_place}
 use Rattle.table.proofs.Trees.{by_kind, tree-kind, tree-span, span-inside}
 use Rattle.table.proofs.Laid.{place_at, laid-at}
 use Rattle.walks.specs.declared.part.Reach.{Reach}
 use Rattle.walks.specs.Listening.{PartWith, itself, the-body, the-left, the-right}
-use Rattle.engine.specs.Parts.{idling, right_free, Runs, Step, Way, Along, Path}
+use Rattle.engine.specs.Parts.{idling, right_free, Runs, Step, Way, Path}
 
 -- ---- states, one after the other
 

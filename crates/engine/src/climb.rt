@@ -30,6 +30,7 @@ fn past_left(fork: Fork<'_>, right: How, n: u32, run: &mut Running, out: &mut [u
 }
 
 // After the part at place k of any construct.
+#[tactic(auto, using(crate::proofs::Climbing::goes_on_node, crate::proofs::Climbing::second_place), unfolding(theory::specs::Part::goes_on))]
 fn goes_on(at: Construct<'_>, k: usize, how: How, n: u32, run: &mut Running, out: &mut [u8]) -> How
     ensures { left result run.new out.new ≡ goes_on array_ops n k (left how run.old out.old) (tree at.entry) }
 {

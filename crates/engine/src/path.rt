@@ -1,6 +1,5 @@
 // The way down from the root to a part, as the places of the constructs that hold it.
 ghost use Rattle.std.specs.Prelude.{◌≡◌, ◌+◌, ◌≤◌, ◌<◌, ℕ, get_or};
-ghost use Rattle.table.specs.Places.{Spot};
 ghost use Rattle.engine.specs.Parts.{Along};
 
 use rules::Limits;
@@ -16,7 +15,7 @@ pub struct Path<'a> {
 }
 
 impl<'a> Path<'a> {
-    // No step yet, from this construct on.
+    // No step yet, from this construct on. A place is below 256, so that two bytes hold it.
     pub fn new(top: Construct<'a>) -> Path<'a>
         ensures table { result.table.now ≡ top.entry.table.now }
         ensures steps { result.steps ≡ 0 }

@@ -1,5 +1,5 @@
 // A level is done where nothing is left to run.
-ghost use Rattle.std.specs.Prelude.{◌≡◌, ◌≤◌};
+ghost use Rattle.std.specs.Prelude.{◌≡◌};
 ghost use Rattle.theory.specs.State.{still_at, still};
 ghost use Rattle.table.specs.Constructs.{tree};
 ghost use Rattle.engine.specs.Parts.{Runs};

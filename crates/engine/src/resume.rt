@@ -32,7 +32,7 @@ fn right_alone(how: How, memory: &mut Memory) -> How
 }
 
 #[cycle(resume)]
-#[tactic(auto, unfolding(theory::specs::State::resume))]
+#[tactic(auto, using(crate::proofs::Climbing::resume_fork), unfolding(theory::specs::State::resume))]
 pub fn resume(at: Construct<'_>, n: u32, run: &mut Running, out: &mut [u8]) -> How
     ensures { left result run.new out.new ≡ resume array_ops n (tree at.entry) run.old.states (arrays_of run.old.memory out.old) }
 {

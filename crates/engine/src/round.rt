@@ -114,32 +114,28 @@ fn rounds(
 {
     let mut event = first;
     let mut level: u32 = 1;
-    let mut emitted: u64 = 0;
-    let mut highest: u32 = 1;
+    let mut rounded = Rounded {
+        grounded: false,
+        emitted: 0,
+        highest: 1,
+    };
     for _ in 0..most {
         run.memory.tick();
         let Some(rung) = event else {
             if level == 1 {
-                return Rounded {
-                    grounded: true,
-                    emitted,
-                    highest,
-                };
+                rounded.grounded = true;
+                return rounded;
             }
             level -= 1;
             event = onward(program, level, run, out);
             continue;
         };
         level += 1;
-        emitted += 1;
-        highest = highest.max(level);
+        rounded.emitted += 1;
+        rounded.highest = rounded.highest.max(level);
         event = pushed(program, rung, level, listeners, run, out);
     }
-    Rounded {
-        grounded: false,
-        emitted,
-        highest,
-    }
+    rounded
 }
 
 // A reaction to an input event, pushed to level 1. All waited before, so that only those run that it woke.

@@ -1,4 +1,4 @@
-// The C functions: each is the call of landarbeso with the same name and the same clauses.
+// The C functions: each is the call of landarbeso with the same name and the same clauses, under C's calling convention.
 #![tactic(auto)]
 
 ghost use Rattle.std.specs.Prelude.{◌≡◌};

@@ -1,10 +1,8 @@
 -- No line is longer than 128 bytes.
 -- Assumes nothing.
-use Rattle.std.proofs.Common.{◌≡◌, ℕ, ◌+◌, ◌^◌, ◌<◌, ◌≤◌, ℤ, w32, Bool, true, false, length, ap, arith, length-append}
-use Rattle.std.specs.Fmt as printed
+use Rattle.std.proofs.Common.{ℕ, ◌^◌, ◌<◌, ◌≤◌, ℤ, w32, Bool, true, false, length, arith, length-append}
 use Rattle.std.proofs.lemmas.Fmt.{length-decimal-le, length_signed_le}
 use mir.Val.{SFits}
-use lib.Signed.{mag}
 use Rattle.lines.specs.Lines.{decimal, signed_decimal, state, call_line, out_line, refusal_line}
 use Rattle.lines.specs.Texts.{text_of_call, text_of_output, text_of_refusal}
 use Rattle.lines.specs.declared.lines.CallLine.{CallLine}

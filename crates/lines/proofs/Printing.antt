@@ -1,6 +1,6 @@
 -- What the library prints of the pieces of a line, one behind the other, is the line by the rules.
 -- Assumes nothing.
-use Rattle.std.proofs.Common.{◌≡◌, ℕ, ◌^◌, ◌<◌, ℤ, w32, Bool, List, [], ◌∷◌, ◌++◌, append_assoc}
+use Rattle.std.proofs.Common.{◌≡◌, ℕ, ◌^◌, ◌<◌, ℤ, w32, [], ◌∷◌, ◌++◌, append_assoc}
 use Rattle.std.specs.Fmt as printed
 use mir.Val.{SFits}
 use Rattle.rules.specs.Stages.{refusal}

@@ -1,7 +1,7 @@
 -- What remains of a construct, by its kind.
 -- Assumes nothing.
 use Rattle.std.specs.Prelude.{if◌then◌else◌}
-use mathlib.Core.Path.{◌≡◌, refl, sym, ap, ◌∙◌}
+use mathlib.Core.Path.{◌≡◌, refl, ap, ◌∙◌}
 use mathlib.Core.Logic.{◌⊎◌, inl, inr}
 use mathlib.Core.List.{List}
 use mathlib.Core.Option.{Option, none, some}
@@ -138,32 +138,30 @@ module _ (b m : List ℕ) (i : ℕ) (p q : Counted) (first : Part b m i p) (othe
 
 -- ---- how many records that makes
 
-module _ (b m : List ℕ) (i : ℕ) where
-  pub nothing-count : rest_of m (tree_of b i) ≡ none → 0 ≡ rest_span m (tree_of b i)
+pub nothing-span : (m : List ℕ) (t : Tree) → rest_of m t ≡ none → 0 ≡ rest_span m t
+unfolding rest_span
+nothing-span m t e = rw e
+
+pub all-span : (b m : List ℕ) (i : ℕ) → Place b i → rest_of m (tree_of b i) ≡ some (tree_of b i) → rest_span m (tree_of b i) ≡ span_at b i
+unfolding rest_span
+all-span b m i p e = rw e (tree-span b i p)
+
+module _ {b m : List ℕ} {i : ℕ} {p : Counted} (part : Part b m i p) where
+  part-span : rest_span m (tree_of b p.at.place) ≡ count_of p
+  part-span = rw (part.table, part.marks)
+
+  pub only-span : rest_of m (tree_of b i) ≡ rest_of m (tree_of b p.at.place) → rest_span m (tree_of b i) ≡ count_of p
   unfolding rest_span
-  nothing-count e = rw e
+  only-span e = rw e part-span
 
-  pub whole-count : Place b i → rest_of m (tree_of b i) ≡ some (tree_of b i) → {n : ℕ} → n ≡ span_at b i → n ≡ rest_span m (tree_of b i)
-  unfolding rest_span
-  whole-count p e q = q ∙ rw e (sym (tree-span b i p))
+pub both-span : {b m : List ℕ} {i : ℕ} {h : Head} {p q : Counted} → Part b m i p → Part b m i q → Over h m (tree_of b i) (tree_of b p.at.place) (tree_of b q.at.place) →
+    rest_span m (tree_of b i) ≡ 1 + (count_of p + other_span h q.at.marks.now (tree_of q.at.table.now q.at.place))
+both-span first other over = over.span ∙ rw (part-span first, other.table, other.marks)
 
-  part-count : {p : Counted} → Part b m i p → {n : ℕ} → n ≡ count_of p → n ≡ rest_span m (tree_of b p.at.place)
-  part-count p e = e ∙ rw (p.table, p.marks)
-
-  pub only-count : {p : Counted} → Part b m i p → rest_of m (tree_of b i) ≡ rest_of m (tree_of b p.at.place) → {n : ℕ} → n ≡ count_of p → n ≡ rest_span m (tree_of b i)
-  unfolding rest_span
-  only-count p e q = part-count p q ∙ rw e
-
-  pub both-count : {p q : Counted} {h : Head} → Part b m i p → Part b m i q → Over h m (tree_of b i) (tree_of b p.at.place) (tree_of b q.at.place) →
-      {l r : ℕ} → l ≡ count_of p → r ≡ other_span h q.at.marks.now (tree_of q.at.table.now q.at.place) → 1 + l + r ≡ rest_span m (tree_of b i)
-  both-count {p} {q} {h} first other o {l} {r} x y =
-      let f = part-count first x in
-      let g : r ≡ other_span h m (tree_of b q.at.place) = y ∙ rw (other.table, other.marks) in
-      omega (arith, o.span, f, g)
+-- the other part of a sequence or a loop
+pub whole-span : {h : Head} → (h ≡ head.Sequence) ⊎ (h ≡ head.Loop) → (m b : List ℕ) (i : ℕ) → Place b i → other_span h m (tree_of b i) ≡ span_at b i
+whole-span (inl e) m b i p = rw e (tree-span b i p)
+whole-span (inr e) m b i p = rw e (tree-span b i p)
 
 pub fits-count : (b m : List ℕ) (i : ℕ) → Place b i → Sound b → {n : ℕ} → n ≡ rest_span m (tree_of b i) → n < 65536
 fits-count b m i p s e = rw e (rest-fits m (tree_of b i) (omega (arith, tree-span b i p, span-inside b i p, s.few)))
-
-pub whole-other : (b m : List ℕ) (i : ℕ) → Place b i → {h : Head} → (h ≡ head.Sequence) ⊎ (h ≡ head.Loop) → {n : ℕ} → n ≡ span_at b i → n ≡ other_span h m (tree_of b i)
-whole-other b m i p (inl e) q = rw e (q ∙ sym (tree-span b i p))
-whole-other b m i p (inr e) q = rw e (q ∙ sym (tree-span b i p))

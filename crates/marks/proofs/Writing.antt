@@ -9,16 +9,14 @@ use native.Mathlib.Omega.{arith}
 use lib.ListN.{length}
 use lib.Seq.{sets}
 use Rattle.rules.specs.Tree.{Tree}
-use Rattle.rules.specs.Table.{span_at}
 use Rattle.rules.specs.Marks.{rest_of}
 use Rattle.rules.specs.Remaining.{records_for}
-use Rattle.table.specs.Places.{Place, tree_of}
-use Rattle.table.proofs.Trees.{tree-span}
+use Rattle.table.specs.Places.{tree_of}
 use Rattle.marks.specs.declared.counted.Counted.{Counted}
 use Rattle.marks.specs.declared.resting.Head.{Head}
 use Rattle.marks.specs.declared.resting.Head.TheVariants as head
 use Rattle.marks.specs.Rest.{span_o, records_o, rest_span, rest_records, head_bytes}
-use Rattle.marks.specs.Leaving.{head_number, count_of, Part, other_span, other_records, Over}
+use Rattle.marks.specs.Leaving.{head_number, count_of, Part, other_records, Over}
 use Rattle.marks.proofs.Stores.{stored-after}
 use Rattle.marks.proofs.Copies.{records-length}
 
@@ -41,20 +39,12 @@ unfolding rest_records
 all-records m t e = rw e
 
 module _ {b m : List ℕ} {i : ℕ} {p : Counted} (part : Part b m i p) where
-  pub part-span : rest_span m (tree_of b p.at.place) ≡ count_of p
-  part-span = rw (part.table, part.marks)
-
-  pub part-records : rest_records p.at.marks.now (tree_of p.at.table.now p.at.place) ≡ rest_records m (tree_of b p.at.place)
+  part-records : rest_records p.at.marks.now (tree_of p.at.table.now p.at.place) ≡ rest_records m (tree_of b p.at.place)
   part-records = rw (part.table, part.marks)
 
-  module _ (e : rest_of m (tree_of b i) ≡ rest_of m (tree_of b p.at.place)) where
-    pub only-span : rest_span m (tree_of b i) ≡ count_of p
-    unfolding rest_span
-    only-span = rw e part-span
-
-    pub only-records : rest_records p.at.marks.now (tree_of p.at.table.now p.at.place) ≡ rest_records m (tree_of b i)
-    unfolding rest_records
-    only-records = part-records ∙ rw e
+  pub only-records : rest_of m (tree_of b i) ≡ rest_of m (tree_of b p.at.place) → rest_records p.at.marks.now (tree_of p.at.table.now p.at.place) ≡ rest_records m (tree_of b i)
+  unfolding rest_records
+  only-records e = part-records ∙ rw e
 
 -- ---- a head over two parts
 
@@ -68,9 +58,6 @@ module _ {b m : List ℕ} {i : ℕ} {h : Head} {p q : Counted} (first : Part b m
   other_is : other_records h q.at.marks.now (tree_of q.at.table.now q.at.place) ≡ other_records h m (tree_of b q.at.place)
   other_is = rw (other.table, other.marks)
 
-  pub spans : rest_span m (tree_of b i) ≡ 1 + (count_of p + other_span h q.at.marks.now (tree_of q.at.table.now q.at.place))
-  spans = over.span ∙ rw (part-span first, other.table, other.marks)
-
   pub parts-stored : (out : List ℕ) (at : ℕ) {o1 o2 o3 : List ℕ} {k s l : ℕ} → k ≡ head_number h → s ≡ rest_span m (tree_of b i) → l ≡ count_of p → o1 ≡ sets out (8 * at) (head_bytes k s) →
       o2 ≡ sets o1 (8 * (at + 1)) (rest_records p.at.marks.now (tree_of p.at.table.now p.at.place)) → o3 ≡ sets o2 (8 * (at + 1 + l)) (other_records h q.at.marks.now (tree_of q.at.table.now q.at.place)) →
       o3 ≡ sets out (8 * at) (rest_records m (tree_of b i))
@@ -79,12 +66,7 @@ module _ {b m : List ℕ} {i : ℕ} {h : Head} {p q : Counted} (first : Part b m
       (rest-length p.at.marks.now (tree_of p.at.table.now p.at.place) ∙ ap (λ n. 8 * n) (sym f)) u v w
       ∙ (rw (d, e, part-records first, other_is) (ap (sets out (8 * at)) (sym over.records)))
 
--- ---- the other part of a head
-
-pub whole-span : {h : Head} → (h ≡ head.Sequence) ⊎ (h ≡ head.Loop) → (m b : List ℕ) (i : ℕ) → Place b i → other_span h m (tree_of b i) ≡ span_at b i
-whole-span (inl e) m b i p = rw e (tree-span b i p)
-whole-span (inr e) m b i p = rw e (tree-span b i p)
-
+-- the other part of a sequence or a loop
 pub whole-is : {h : Head} → (h ≡ head.Sequence) ⊎ (h ≡ head.Loop) → (m : List ℕ) (t : Tree) → other_records h m t ≡ records_for t
 whole-is (inl e) m t = rw e
 whole-is (inr e) m t = rw e

@@ -9,6 +9,7 @@ use Rattle.table.specs.Named.{par_of}
 use Rattle.table.specs.Places.{tree_of}
 use Rattle.table.specs.declared.kind.Kind as kind
 use Rattle.table.specs.declared.kind.Kind.TheVariants as kind_case
+use Rattle.marks.specs.Cursors.{tree}
 use Rattle.marks.specs.Rest.{rest_span, rest_records, head_bytes}
 use Rattle.marks.specs.declared.counted.Counted.{Counted}
 use Rattle.marks.specs.declared.resting.Head.{Head}
@@ -23,7 +24,7 @@ head_number Loop = 20
 head_number (Par o) = by_par (par_of o) 21
 
 abbrev pub count_of : Counted → ℕ
-count_of p = rest_span p.at.marks.now (tree_of p.at.table.now p.at.place)
+count_of p = rest_span p.at.marks.now (tree p.at)
 
 -- what remains of a construct whose first part has something left, by its kind and how many records remain of the other
 abbrev pub with_first : kind.Kind → ℕ → Counted → Counted → Rest

@@ -1,6 +1,6 @@
 // A construct of which it is known how many records remain, and the same of every construct behind it.
 ghost use Rattle.std.specs.Prelude.{◌≡◌, ◌<◌};
-ghost use Rattle.table.specs.Places.{tree_of};
+ghost use Rattle.marks.specs.Cursors.{tree};
 ghost use Rattle.marks.specs.Fitting.{Sound};
 ghost use Rattle.marks.specs.Rest.{rest_span, Rests};
 
@@ -26,7 +26,7 @@ impl<'a> Counted<'a> {
 
     // How many records remain of it.
     pub fn count(self) -> usize
-        ensures records { result ≡ rest_span self.entry.at.marks.now (tree_of self.entry.at.table.now self.entry.at.place) }
+        ensures records { result ≡ rest_span self.entry.at.marks.now (tree self.entry.at) }
         ensures two_bytes { result < 65536 }
     {
         usize::from(self.rests[self.at.place])

@@ -1,12 +1,13 @@
 // Stage 8: the marks' number, each mark by itself, and whether the marks fit.
-ghost use Rattle.std.specs.Prelude.{◌≡◌, ◌||◌, ◌+◌, ◌≤◌, ◌<◌, length};
+ghost use Rattle.std.specs.Prelude.{◌≡◌, ◌+◌, ◌≤◌, ◌<◌};
 ghost use Rattle.rules.specs.Limits.{most_records};
 ghost use Rattle.rules.specs.Stages.{failing, first_refusal};
 ghost use Rattle.rules.specs.Table.{records_of};
 ghost use Rattle.rules.specs.Marks.{mark_right, marks_stages};
-ghost use Rattle.table.specs.Places.{Place, tree_of};
+ghost use Rattle.table.specs.Places.{Place};
 ghost use Rattle.table.specs.Found.{first_of, Inside};
-ghost use Rattle.marks.specs.Fitting.{Spot, misfits_here, seen_of, join_seen, side_fit, par_fit, Says, FitFrom, LetsPass, refused_at};
+ghost use Rattle.marks.specs.Cursors.{tree};
+ghost use Rattle.marks.specs.Fitting.{misfits_here, seen_of, join_seen, side_fit, par_fit, Says, FitFrom, LetsPass, refused_at};
 
 use crate::marked::Marked;
 use rules::Limits;
@@ -57,7 +58,7 @@ fn join_seen(kind: Kind, place: usize, left: Seen, right: Seen) -> Seen
 
 // What the marks say of a construct.
 fn see(at: Marked<'_>) -> Seen
-    ensures seen { result ≡ seen_of at.entry.marks.now (tree_of at.entry.table.now at.entry.place) }
+    ensures seen { result ≡ seen_of at.entry.marks.now (tree at.entry) }
     ensures inside { Inside at.entry.table.now result.misfit }
 {
     let kind = at.kind();
@@ -112,7 +113,7 @@ fn par_fit(par: Par, left: Fit, right: Fit) -> Fit
 fn fit_at(at: Marked<'_>, fits: &[Fit; Limits::RECORDS]) -> Fit
     requires few { records_of at.table.now ≤ most_records }
     requires known { FitFrom at.table.now at.marks.now (at.place + 1) fits.now }
-    ensures { Says result (seen_of at.entry.marks.now (tree_of at.entry.table.now at.entry.place)) }
+    ensures { Says result (seen_of at.entry.marks.now (tree at.entry)) }
 {
     match at.kind() {
         Kind::Await(_) | Kind::Every(_) | Kind::Fin => {

@@ -5,11 +5,12 @@ ghost use Rattle.std.proofs.lemmas.List.Edits.{sets};
 ghost use Rattle.rules.specs.Stages.{first_refusal};
 ghost use Rattle.rules.specs.Limits.{record_bytes};
 ghost use Rattle.rules.specs.Tree.{span_of};
-ghost use Rattle.rules.specs.Table.{span_at, records_of, program_of};
+ghost use Rattle.rules.specs.Table.{span_at, program_of};
 ghost use Rattle.rules.specs.Marks.{marks_stages, at_rest};
 ghost use Rattle.rules.specs.Calls.{onto};
 ghost use Rattle.rules.specs.Remaining.{records_for};
 ghost use Rattle.table.specs.Places.{Place, tree_of};
+ghost use Rattle.marks.specs.Cursors.{tree};
 ghost use Rattle.marks.specs.Fitting.{Sound};
 ghost use Rattle.marks.specs.Rest.{rest_span, rest_records, head_bytes, Rests};
 
@@ -65,15 +66,15 @@ fn records_at(table: &[u8], place: usize) -> &[u8]
 fn write_whole(part: Marked<'_>, out: &mut [u8], at: usize)
     requires sound { Sound part.table.now }
     requires room { record_bytes * (at + span_at part.table.now part.place) ≤ length out.old }
-    ensures { out.new ≡ sets out.old (record_bytes * at) (records_for (tree_of part.entry.table.now part.entry.place)) }
+    ensures { out.new ≡ sets out.old (record_bytes * at) (records_for (tree part.entry)) }
 {
     write_records(records_at(part.table, part.place), out, at);
 }
 
 // What remains of a construct.
 fn write_rest(part: Counted<'_>, out: &mut [u8], at: usize)
-    requires { record_bytes * (at + rest_span part.at.marks.now (tree_of part.at.table.now part.at.place)) ≤ length out.old }
-    ensures { out.new ≡ sets out.old (record_bytes * at) (rest_records part.entry.at.marks.now (tree_of part.entry.at.table.now part.entry.at.place)) }
+    requires { record_bytes * (at + rest_span part.at.marks.now (tree part.at)) ≤ length out.old }
+    ensures { out.new ≡ sets out.old (record_bytes * at) (rest_records part.entry.at.marks.now (tree part.entry.at)) }
 {
     match rest_at(part.at, part.rests) {
         Rest::Nothing => {}
@@ -125,6 +126,7 @@ pub fn write_remaining(table: &[u8], marks: &[u8], out: &mut [u8]) -> usize
     let program = Counted::of(at, &rests);
     let span = program.count();
     if span == 0 {
+        // The record that does nothing.
         write_head(out, 0, 0, 1);
         return 1;
     }

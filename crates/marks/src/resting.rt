@@ -1,6 +1,6 @@
 // What remains of a construct, by its kind and by how many records remain of its parts; and how many that makes.
 ghost use Rattle.std.specs.Prelude.{◌≡◌, ◌+◌, ◌<◌};
-ghost use Rattle.table.specs.Places.{tree_of};
+ghost use Rattle.marks.specs.Cursors.{tree};
 ghost use Rattle.marks.specs.Fitting.{Sound};
 ghost use Rattle.marks.specs.Rest.{rest_span, Rests};
 ghost use Rattle.marks.specs.Leaving.{head_number, count_of, joined, other_span, Leaves};
@@ -33,7 +33,7 @@ impl Head {
 
     // How many records it has of the other part.
     fn other_count(self, other: Counted<'_>) -> usize
-        ensures count { result ≡ other_span self other.entry.at.marks.now (tree_of other.entry.at.table.now other.entry.at.place) }
+        ensures count { result ≡ other_span self other.entry.at.marks.now (tree other.entry.at) }
         ensures two_bytes { result < 65536 }
     {
         match self {
@@ -100,7 +100,7 @@ pub fn rest_at<'a>(at: Marked<'a>, rests: &'a [u16; Limits::RECORDS]) -> Rest<'a
 pub fn count_at<'a>(at: Marked<'a>, rests: &'a [u16; Limits::RECORDS]) -> usize
     requires sound { Sound at.table.now }
     requires known { Rests at.table.now at.marks.now (at.place + 1) rests.now }
-    ensures records { result ≡ rest_span at.entry.marks.now (tree_of at.entry.table.now at.entry.place) }
+    ensures records { result ≡ rest_span at.entry.marks.now (tree at.entry) }
     ensures two_bytes { result < 65536 }
 {
     match rest_at(at, rests) {

@@ -1,5 +1,5 @@
 -- What a run lends to the calls, in the rules' words.
-use Rattle.std.specs.Prelude.{◌≡◌, take, Result}
+use Rattle.std.specs.Prelude.{take, Result}
 use Rattle.rules.specs.Table.{records_of}
 use Rattle.rules.specs.Calls.{Lent, Outcome}
 use Rattle.table.specs.declared.refusal.Refusal.{Refusal}

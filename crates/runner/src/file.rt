@@ -9,6 +9,7 @@ use std::{fs, str};
 pub fn read<'a>(rt: &impl Files, name: &[u8], buffer: &'a mut [u8]) -> &'a [u8]
     ensures { length result.now ≤ length buffer.old }
 {
+    // (counted by hand, since each turn goes on by as many bytes as it read)
     let mut done = 0;
     if let Ok(text) = str::from_utf8(name)
         && let Ok(mut file) = fs::open(rt, text)

@@ -1,12 +1,13 @@
 -- The list of the rules for every input: what the stages refuse, or the list itself. It is taken event by event, and each turn keeps that what
 -- runs stands for what was taken.
-use Rattle.std.proofs.Common.{refl, arith, rules, ◌∙◌, w32, to_z-of_z, length, ◌/◌}
+use Rattle.std.proofs.Common.{refl, arith, rules, ◌∙◌, ◌<◌, w32, to_z-of_z, length, ◌/◌}
 use Rattle.std.proofs.lemmas.Result.{err_from_is_err_and}
 use Rattle.rules.specs.Calls.{none_taken}
 use Rattle.rules.specs.Lists.{list_call, sent_from, take_events}
 use Rattle.calls.specs.Answers.{lent}
 use Rattle.calls.specs.Stages.{run_stages}
 use Rattle.calls.proofs.Judging.{same-steps}
+use Rattle.calls.proofs.Passing.{event-of-record, value-of-record}
 use Rattle.calls.proofs.Passed.{passed-few, passed-spot, passed-steps}
 use Rattle.calls.proofs.Answering.{held_bytes, held-waits, marks-sized, tested-ran}
 use Rattle.calls.proofs.Reacting.{ready-few}
@@ -40,7 +41,7 @@ pub has_room-requires : goal.has_room-requires
 has_room-requires c = made-fits c.args.table.now c.args.marks.now c.args.vars.now c.args.events.now c.args.out.now c.run_stages.ensures c.in_ok-announced.was c.loop-place.invariant.going
 
 pub at-requires : goal.at-requires
-at-requires c = omega (arith, few-events c.args.table.now c.args.marks.now c.args.vars.now c.args.events.now c.args.out.now c.run_stages.ensures c.in_ok-announced.was)
+at-requires c = omega (arith, c.loop-place-test.true, c.as_chunks.ensures.front_len, few-events c.args.table.now c.args.marks.now c.args.vars.now c.args.events.now c.args.out.now c.run_stages.ensures c.in_ok-announced.was)
 
 pub invariant_of-program : goal.invariant_of-program
 invariant_of-program c = record { stands = passed-spot c.args.table.now (run-ready c.args.table.now c.args.marks.now c.args.vars.now c.args.events.now c.args.out.now c.run_stages.ensures c.in_ok-announced.was).table }
@@ -55,15 +56,21 @@ react-round-requires-clause-all_wait c = held-waits c.args.table.now c.args.out.
 
 pub overflow_add-emitted : goal.overflow_add-emitted
 overflow_add-emitted c =
-    let value = to_z-of_z {w = w32} (search rules) ∙ c.at-number.ensures.value in
-    let next = going_on c.args.table.now c.args.marks.now c.args.vars.now c.args.events.now c.args.out.now c.run_stages.ensures c.in_ok-announced.was c.loop-place.invariant.going c.has_room.ensures c.if-not-has_room.false c.loop-place-test.true c.at-number.ensures.number value c.react-round.ensures c.react-round.auto.out refl in
+    let es = c.args.events.now in
+    let inside : c.loop-place.place < length es / 8 = omega (arith, c.loop-place-test.true, c.as_chunks.ensures.front_len) in
+    let event = c.sent-event.ensures.event ∙ event-of-record es _ c.as_chunks.ensures.front c.loop-place.place _ inside in
+    let value = to_z-of_z {w = w32} (search rules) ∙ c.sent-event.ensures.value ∙ value-of-record es _ c.as_chunks.ensures.front c.loop-place.place _ inside in
+    let next = going_on c.args.table.now c.args.marks.now c.args.vars.now c.args.events.now c.args.out.now c.run_stages.ensures c.in_ok-announced.was c.loop-place.invariant.going c.has_room.ensures c.if-not-has_room.false inside event value c.react-round.ensures c.react-round.auto.out refl in
     omega (arith, going-few c.args.table.now c.args.marks.now c.args.vars.now c.args.events.now c.args.out.now c.run_stages.ensures c.in_ok-announced.was next)
 
 pub loop-place-preserved : goal.loop-place-preserved
 loop-place-preserved c =
-    let value = to_z-of_z {w = w32} (search rules) ∙ c.at-number.ensures.value in
+    let es = c.args.events.now in
+    let inside : c.loop-place.place < length es / 8 = omega (arith, c.loop-place-test.true, c.as_chunks.ensures.front_len) in
+    let event = c.sent-event.ensures.event ∙ event-of-record es _ c.as_chunks.ensures.front c.loop-place.place _ inside in
+    let value = to_z-of_z {w = w32} (search rules) ∙ c.sent-event.ensures.value ∙ value-of-record es _ c.as_chunks.ensures.front c.loop-place.place _ inside in
     record {
-      going = going_on c.args.table.now c.args.marks.now c.args.vars.now c.args.events.now c.args.out.now c.run_stages.ensures c.in_ok-announced.was c.loop-place.invariant.going c.has_room.ensures c.if-not-has_room.false c.loop-place-test.true c.at-number.ensures.number value c.react-round.ensures c.react-round.auto.out c.max-highest.ensures;
+      going = going_on c.args.table.now c.args.marks.now c.args.vars.now c.args.events.now c.args.out.now c.run_stages.ensures c.in_ok-announced.was c.loop-place.invariant.going c.has_room.ensures c.if-not-has_room.false inside event value c.react-round.ensures c.react-round.auto.out c.max-highest.ensures;
       taken = omega (arith, c.loop-place.invariant.taken);
       stopped = c.loop-place.invariant.stopped;
     }
@@ -78,8 +85,8 @@ returns c =
     elim c.loop-place-test.branch [
       | else-loop-place-test w ↦
           rw (c.loop-place.invariant.taken, w.stopped-is, c.loop-place.invariant.stopped)
-          (list-over c.args.table.now c.args.marks.now c.args.vars.now c.args.events.now c.args.out.now c.run_stages.ensures c.in_ok-announced.was c.loop-place.invariant.going c.finish-done.ensures (omega (arith, w.loop-place-test.false)))
+          (list-over c.args.table.now c.args.marks.now c.args.vars.now c.args.events.now c.args.out.now c.run_stages.ensures c.in_ok-announced.was c.loop-place.invariant.going c.finish-done.ensures (omega (arith, w.loop-place-test.false, c.as_chunks.ensures.front_len)))
       | then-loop-place-test+then-not-has_room w ↦
           rw (c.loop-place.invariant.taken, w.stopped-is)
-          (list-short c.args.table.now c.args.marks.now c.args.vars.now c.args.events.now c.args.out.now c.run_stages.ensures c.in_ok-announced.was c.loop-place.invariant.going c.finish-done.ensures w.has_room.ensures w.if-not-has_room.true w.loop-place-test.true w.at.ensures)
+          (list-short c.args.table.now c.args.marks.now c.args.vars.now c.args.events.now c.args.out.now c.run_stages.ensures c.in_ok-announced.was c.loop-place.invariant.going c.finish-done.ensures w.has_room.ensures w.if-not-has_room.true (omega (arith, w.loop-place-test.true, c.as_chunks.ensures.front_len)) w.at.ensures)
     ]

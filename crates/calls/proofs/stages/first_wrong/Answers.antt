@@ -1,11 +1,12 @@
--- The search stops at the first event whose test fails.
+-- The search stops at the first record whose test fails.
 use Rattle.std.proofs.Common.{◌≡◌, true, false, rules}
-use Rattle.std.proofs.lemmas.Iterator.{first_from_Range}
+use Rattle.std.proofs.lemmas.Iterator.{IsFirst-from_position, YieldsList-from_slice}
 use borrow.Author.Tests.{tests}
 use Rattle.rules.specs.Lists.{event_right}
+use Rattle.calls.proofs.Passing.{first-record}
 use Rattle.calls.proofs.stages.first_wrong.Goals as goal
 
 pub returns : goal.returns
 returns c =
-    let es = c.args.events.now in
-    first_from_Range _ _ _ _ (λ i. event_right es i ≡ false) (λ i. event_right es i ≡ true) c.find.ensures.ran (λ x q k. search (rules, tests)) (λ x q k. search (rules, tests))
+    first-record c.args.events.now _ c.as_chunks.ensures.front c.as_chunks.ensures.front_len _
+    (IsFirst-from_position _ _ _ (λ x. event_right x 0 ≡ false) (λ x. event_right x 0 ≡ true) c.position.ensures.ran (YieldsList-from_slice _ cc) (λ x q k. search (rules, tests)) (λ x q k. search (rules, tests)))

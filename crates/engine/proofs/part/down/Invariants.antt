@@ -1,5 +1,5 @@
 -- The way so far ends at the construct.
-use Rattle.std.proofs.Common.{◌≡◌, ◌-◌, ◌≤◌, get_or}
+use Rattle.std.proofs.Common.{◌≡◌, ◌-◌, get_or}
 use Rattle.engine.specs.Parts.{Way}
 use Rattle.engine.proofs.part.down.Given as goal
 

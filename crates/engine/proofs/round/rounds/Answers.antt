@@ -12,6 +12,7 @@ loop-preserved-in_default c = record {
   named = c.onward-event.ensures.named;
   level = omega arith;
   turns = omega arith;
+  unfinished = c.loop.invariant.unfinished;
   pushes = omega arith;
   outcome = pop_step _ _ _ _ _ _ _ _ _ _ (omega arith) (c.tick.ensures _) _ _ _ (none-pending _ c.in_default.not-Some) c.if-level-eq1.false c.onward-event.ensures.left ∙ c.loop.invariant.outcome;
 }
@@ -23,9 +24,10 @@ loop-preserved c =
       named = c.pushed-event.ensures.named;
       level = omega arith;
       turns = omega arith;
+      unfinished = c.loop.invariant.unfinished;
       pushes = omega arith;
-      outcome = push_step _ _ _ _ _ _ _ _ _ _ (omega arith) (c.tick.ensures _) _ _ _ (omega (arith, i.named)) c.max-highest.ensures c.pushed-event.ensures.left ∙ i.outcome;
+      outcome = push_step _ _ _ _ _ _ _ _ _ _ (omega arith) (c.tick.ensures _) _ _ _ (omega (arith, i.named)) c.max.ensures c.pushed-event.ensures.left ∙ i.outcome;
     }
 
 pub returns : goal.returns
-returns c = none_left _ _ _ _ _ _ _ _ (omega arith) ∙ c.loop.invariant.outcome
+returns c = rw c.loop.invariant.unfinished (none_left _ _ _ _ _ _ _ _ (omega arith) ∙ c.loop.invariant.outcome)

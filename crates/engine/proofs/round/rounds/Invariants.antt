@@ -1,5 +1,5 @@
 -- What is left to do gives what the whole gives; the level and the events emitted are at most the turns taken.
-use Rattle.std.proofs.Common.{◌≡◌, ◌+◌, ◌-◌, ◌≤◌}
+use Rattle.std.proofs.Common.{◌≡◌, false, ◌+◌, ◌-◌, ◌≤◌}
 use Rattle.theory.specs.Round.{rounds}
 use Rattle.table.specs.Constructs.{tree}
 use Rattle.memory.specs.Acts.{arrays_of}
@@ -12,6 +12,7 @@ invariant-loop l = record {
   named : Named l.event;
   level : 1 ≤ l.level;
   turns : l.level ≤ l.counter + 1;
-  pushes : l.emitted ≤ l.counter;
-  outcome : rounds array_ops (tree l.program) (l.most - l.counter) (event_number l.event) l.level l.emitted l.highest l.run.states (arrays_of l.run.memory l.out) ≡ rounds array_ops (tree l.program) l.most (event_number l.fn.first) 1 0 1 l.fn.run.states (arrays_of l.fn.run.memory l.fn.out);
+  unfinished : l.rounded.grounded ≡ false;
+  pushes : l.rounded.emitted ≤ l.counter;
+  outcome : rounds array_ops (tree l.program) (l.most - l.counter) (event_number l.event) l.level l.rounded.emitted l.rounded.highest l.run.states (arrays_of l.run.memory l.out) ≡ rounds array_ops (tree l.program) l.most (event_number l.fn.first) 1 0 1 l.fn.run.states (arrays_of l.fn.run.memory l.fn.out);
 }

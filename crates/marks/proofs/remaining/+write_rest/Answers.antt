@@ -1,13 +1,13 @@
 -- What remains of a construct, written by what it leaves.
-use Rattle.std.proofs.Common.{◌+◌, ◌*◌, refl, sym, ap, ◌∙◌, arith}
+use Rattle.std.proofs.Common.{◌+◌, ◌*◌, sym, ap, ◌∙◌, arith}
 use Rattle.std.proofs.lemmas.List.Edits.{sets}
 use Rattle.table.specs.Places.{tree_of}
-use Rattle.marks.proofs.Leavings.{whole-count}
-use Rattle.marks.proofs.Writing.{nothing-records, all-records, only-span, only-records, spans, parts-stored, whole-span, whole-is}
+use Rattle.marks.proofs.Leavings.{all-span, only-span, both-span, whole-span}
+use Rattle.marks.proofs.Writing.{nothing-records, all-records, only-records, parts-stored, whole-is}
 use Rattle.marks.proofs.remaining.+write_rest.Goals as goal
 
 pub write_whole-requires-clause-room : goal.write_whole-requires-clause-room
-write_whole-requires-clause-room t c = omega (arith, c.requires, whole-count _ c.args.part.at.marks.now _ c.args.part.at.stands.place c.in-Whole.ensures refl)
+write_whole-requires-clause-room t c = omega (arith, c.requires, all-span _ c.args.part.at.marks.now _ c.args.part.at.stands.place c.in-Whole.ensures)
 
 pub write_rest-requires : goal.write_rest-requires
 write_rest-requires t c =
@@ -20,7 +20,7 @@ write_whole-requires-in-Sequence t c =
     let other = c.in-Both.other in
     record {
       sound = other.sound;
-      room = omega (arith, c.requires, spans e.0 e.1 e.2, c.count-in-Both.ensures.records, whole-span c.in-Sequence.is other.at.marks.now other.at.table.now other.at.place other.at.stands.place, c.write_rest-in-Both.auto.out, c.write_head.auto.out);
+      room = omega (arith, c.requires, both-span e.0 e.1 e.2, c.count-in-Both.ensures.records, whole-span c.in-Sequence.is other.at.marks.now other.at.table.now other.at.place other.at.stands.place, c.write_rest-in-Both.auto.out, c.write_head.auto.out);
     }
 
 pub returns-in-Nothing : goal.returns-in-Nothing
