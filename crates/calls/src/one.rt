@@ -1,5 +1,4 @@
 // The start, and one reaction.
-ghost use Rattle.std.specs.Prelude.{◌≡◌};
 ghost use Rattle.rules.specs.Calls.{start_call, react_call};
 ghost use Rattle.calls.specs.Answers.{Uncounted, lent, sent_of};
 

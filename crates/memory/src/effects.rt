@@ -1,7 +1,7 @@
 // What a running program keeps beside its states: 64 variables, and how many steps it took and outputs it made.
 ghost use Rattle.std.specs.Prelude.{◌≡◌};
 ghost use Rattle.std.specs.Int.Signed.{mag};
-ghost use Rattle.memory.specs.Arrays.{acts, kind_acts, variable, set_variable, put_output, make_output};
+ghost use Rattle.memory.specs.Arrays.{acts, kind_acts, variable, put_output, make_output};
 ghost use Rattle.memory.specs.Acts.{act_of, arrays_of, Ticks, Tests, Sets, counted};
 
 use crate::act::Act;
