@@ -1,6 +1,6 @@
 -- From what is held to the answer: what is stored, and what is answered, is what the rules say.
 -- Assumes nothing.
-use Rattle.std.specs.Prelude.{Result, Ok, Err}
+use Rattle.std.specs.Prelude.{Result, Err}
 use Rattle.std.specs.List.{list_all}
 use mathlib.Core.Path.{◌≡◌, refl, sym, ap, ◌∙◌}
 use mathlib.Core.Bool.{Bool, true, ◌&&◌}
@@ -12,7 +12,7 @@ use lib.Dec.{eqb, eqb→eq, ltb}
 use lib.IntN.{ℤ}
 use lib.ListN.{length, get_or, take}
 use lib.Seq.{ext_get_or, get_or-take, length-take-le}
-use Rattle.rules.specs.Stages.{Refusal, Stage, first_refusal, refusal}
+use Rattle.rules.specs.Stages.{Refusal, Stage, first_refusal}
 use Rattle.rules.specs.Limits.{most_records, top_total, variables}
 use Rattle.rules.specs.Table.{kind_at, records_of}
 use Rattle.rules.specs.Check.{announced}
@@ -30,7 +30,6 @@ use Rattle.memory.proofs.Standing.{stands-room}
 use Rattle.engine.specs.Parts.{AllWait}
 use Rattle.walks.specs.declared.running.Running.{Running}
 use Rattle.calls.specs.declared.Done.{Done}
-use Rattle.calls.specs.declared.Listed.{Listed}
 use Rattle.calls.specs.Answers.{Ran, Uncounted, answer_of}
 use Rattle.calls.specs.Holding.{Bytes, Stored}
 use Rattle.calls.specs.Stages.{judged}

@@ -24,7 +24,6 @@ use Rattle.theory.proofs.Accepted.{verdict-refused, verdict-accepted}
 use Rattle.acceptance.specs.Counts.{announced_of}
 use Rattle.acceptance.specs.Verdicts.{verdict_of}
 use Rattle.acceptance.specs.declared.Announced.{Announced}
-use Rattle.table.specs.Refusing.{refusal_of}
 use Rattle.table.specs.declared.refusal.Refusal as Code
 use Rattle.table.specs.Found.{first_of}
 use Rattle.table.proofs.Finding.{found-fails, found_none}

@@ -6,7 +6,7 @@ use Rattle.std.specs.List.{list_all}
 use mathlib.Core.Path.{◌≡◌, refl, sym, ap, subst, ◌∙◌}
 use mathlib.Core.Bool.{Bool, true, false}
 use mathlib.Core.List.{List, [], ◌∷◌}
-use mathlib.Core.Option.{Option, none, some}
+use mathlib.Core.Option.{none, some}
 use Prim.Native.Nat.{ℕ, zero, suc, ◌+◌, ◌-◌, ◌*◌, ◌/◌, ◌≤◌, ◌<◌, max}
 use native.Mathlib.Numerals.{add-one}
 use native.Mathlib.Omega.{arith}
@@ -42,7 +42,7 @@ use Rattle.calls.specs.Stages.{judged, run_stages}
 use Rattle.calls.proofs.Judging.{all-passed, same-steps}
 use Rattle.calls.proofs.Passed.{passed-few}
 use Rattle.calls.proofs.Holding.{Holds, takes-event, valued}
-use Rattle.calls.proofs.Answering.{Did, answered, marks-sized, outputs-are, tested-passed}
+use Rattle.calls.proofs.Answering.{answered, marks-sized, outputs-are, tested-passed}
 use Rattle.calls.proofs.Reacting.{Ready, loaded, ready}
 
 -- no stage of a list has number 12

@@ -4,18 +4,18 @@ use Rattle.std.specs.Prelude.{Result, Ok}
 use mathlib.Core.Path.{◌≡◌, refl, sym, ap, subst, ◌∙◌}
 use mathlib.Core.List.{List, [], ◌∷◌, ◌++◌}
 use mathlib.Core.Option.{none}
-use Prim.Native.Nat.{ℕ, ◌+◌, ◌/◌, ◌≤◌, ◌<◌, max}
+use Prim.Native.Nat.{ℕ, ◌+◌, ◌/◌, ◌≤◌, max}
 use native.Mathlib.Omega.{arith}
 use lib.Dec.{eqb, eqb→eq}
 use lib.IntN.{ℤ, pos}
-use lib.ListN.{length, get_or, drop, replicate, length-append, length-drop, length-replicate, get_or-append, get_or-replicate}
+use lib.ListN.{length, drop, replicate, length-append, length-drop, length-replicate, get_or-append, get_or-replicate}
 use Rattle.rules.specs.Stages.{Stage, first_refusal}
 use Rattle.rules.specs.Limits.{most_records, record_bytes, top_total, variables}
 use Rattle.rules.specs.Table.{records_of}
 use Rattle.rules.specs.Check.{announced, table_stages}
 use Rattle.rules.specs.Marks.{length_stage, marks_stages}
 use Rattle.rules.specs.Run.{start}
-use Rattle.rules.specs.Calls.{Lent, Outcome, Taken, answers, event_stage, join_run, none_taken, onto, react_call, room_stage, start_call, take_event, vars_stage}
+use Rattle.rules.specs.Calls.{Lent, Outcome, Taken, answers, event_stage, join_run, none_taken, react_call, room_stage, start_call, take_event, vars_stage}
 use Rattle.theory.specs.Stages.{first-append, next, unless-true}
 use Rattle.theory.proofs.Calls.{enough-vars, none-held, roomy}
 use Rattle.theory.specs.Round.{begin, react}
@@ -24,7 +24,6 @@ use Rattle.table.specs.declared.refusal.Refusal as Code
 use Rattle.acceptance.specs.Verdicts.{verdict_of}
 use Rattle.acceptance.specs.declared.Announced.{Announced}
 use Rattle.memory.specs.Acts.{arrays_of}
-use Rattle.memory.specs.Arrays.{arrays}
 use Rattle.memory.specs.Stands.{Stands}
 use Rattle.memory.proofs.Standing.{stands-start}
 use Rattle.walks.specs.Walks.{array_ops}
