@@ -73,9 +73,6 @@ module _ (b room : List ℕ) {k : ℕ} {g : Taken} {run : Running} {o : List ℕ
   unfolding arrays_of arrays
   same-vars = h.stands.same_vars
 
-  pub held-vars : length run.memory.vars ≡ variables
-  held-vars = ap length same-vars ∙ h.stands.all_vars
-
   pub marks-stored : records_of b ≤ most_records → (n : ℕ) → n ≡ records_of b → take n run.states ≡ g.marks
   marks-stored few n e =
       let l : length (take n run.states) ≡ n = length-take-le n run.states (omega (arith, h.long)) in

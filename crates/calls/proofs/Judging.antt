@@ -139,10 +139,7 @@ module _ (b : List ℕ) (xs : List Stage) {x : Result Announced Code.Refusal} (e
   pub passes-room : y ≡ true → judged b (room_stage (announced b).outputs o ∷ []) ≡ judged b []
   passes-room = passes-test b 11 [] same-room
 
--- ---- stages 1 to 9 before those of the events, and places that were found
+-- ---- stages 1 to 9 before those of the events
 
 pub standing-first : (b m : List ℕ) (v : List ℤ) (ys : List Stage) → judged b (table_stages b ++ (marks_stages b m ++ (vars_stage v ∷ ys))) ≡ judged b (standing_stages b m v ++ ys)
 standing-first b m v ys = ap (judged b) (sym (append_assoc (table_stages b) (marks_stages b m ++ (vars_stage v ∷ [])) ys ∙ ap (λ (l : List Stage). table_stages b ++ l) (append_assoc (marks_stages b m) (vars_stage v ∷ []) ys)))
-
-pub low-place : {x : code.Option ℕ} {p : ℕ} → x ≡ Some p → Low x → p < 2 ^ 32
-low-place e h = rw e at h

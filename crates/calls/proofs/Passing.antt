@@ -33,15 +33,15 @@ all_zeros (x ∷ xs) = ap (λ (b : Bool). eqb x 0 && b) (all_zeros xs)
 -- ---- the events of a list
 
 module _ (ok : ℕ → Bool) (n : ℕ) where
-  passes-before : (i : ℕ) → i ≤ n → ((k : ℕ) → 0 ≤ k → k < i → ok k ≡ true) → failing ok 0 n ≡ failing ok i (n - i)
+  passes-before : (i : ℕ) → i ≤ n → ((k : ℕ) → k < i → ok k ≡ true) → failing ok 0 n ≡ failing ok i (n - i)
   passes-before zero h f = failing-all ok n
   passes-before (suc i) h f =
-      passes-before i (omega arith) (λ k z l. f k z (omega arith))
-      ∙ rw (add-one i) at (failing-passes ok i n (omega arith) (f i (omega arith) (omega arith)))
+      passes-before i (omega arith) (λ k l. f k (omega arith))
+      ∙ rw (add-one i) at (failing-passes ok i n (omega arith) (f i (omega arith)))
 
   pub first-fails : (r : Option ℕ) → First ok n r → r ≡ first_of (failing ok 0 n)
   first-fails None h = sym (ap first_of (passes-before n (omega arith) h ∙ failing-over ok n n (omega arith)))
-  first-fails (Some i) h = sym (ap first_of (passes-before i (omega arith) h.3 ∙ failing-fails ok i n h.1 h.2))
+  first-fails (Some i) h = sym (ap first_of (passes-before i (omega arith) h.2 ∙ failing-fails ok i n h.0 h.1))
 
 -- where the last record is broken
 abbrev broken : List ℕ → List ℕ
@@ -73,8 +73,8 @@ module _ (es : List ℕ) (pieces : List (List ℕ)) (cut : pieces ≡ first_chun
   pub first-record : length pieces ≡ length es / record_bytes → (r : Option ℕ) →
       MatchOption r (AllWithin (λ x. event_right x 0 ≡ true) pieces 0 (length pieces)) (λ i. (i < length pieces) × HoldsAt (λ x. event_right x 0 ≡ false) pieces i × AllWithin (λ x. event_right x 0 ≡ true) pieces 0 i) →
       First (event_right es) (length es / record_bytes) r
-  first-record n None h = λ k z l. right-of-record k [] l ∙ h k [] z (omega arith)
-  first-record n (Some i) h = (omega arith, omega (arith, h.0), right-of-record i [] (omega (arith, h.0)) ∙ h.1 [], λ k z l. right-of-record k [] (omega (arith, h.0)) ∙ h.2 k [] z l)
+  first-record n None h = λ k l. right-of-record k [] l ∙ h k [] (omega arith) (omega arith)
+  first-record n (Some i) h = (omega (arith, h.0), right-of-record i [] (omega (arith, h.0)) ∙ h.1 [], λ k l. right-of-record k [] (omega (arith, h.0)) ∙ h.2 k [] (omega arith) l)
 
 module _ (es : List ℕ) (short : length es ≤ most_list_bytes) (r : Option ℕ) (f : First (event_right es) (length es / record_bytes) r) where
   all-fails : (l : List ℕ) → broken es ≡ l → first_of (list_fails es) ≡ or_next r (first_of l)

@@ -1,7 +1,5 @@
 -- The states and variables of a running program, as code holds them.
-use Rattle.std.specs.Prelude.{◌≡◌, List, ℕ, ◌<◌, ltb, ℤ, get_or, length, take, replicate, if◌then◌else◌}
-use Rattle.std.proofs.Math.Option.{Option, none, some}
-use Rattle.rules.specs.Stages.{Refusal, refusal}
+use Rattle.std.specs.Prelude.{◌≡◌, List, ℕ, ◌<◌, ℤ, get_or, length, take, replicate}
 use Rattle.rules.specs.Limits.{most_records}
 use Rattle.rules.specs.Marks.{all_zero}
 use Rattle.rules.specs.Calls.{onto}
@@ -24,7 +22,3 @@ pub record Stored (emitted highest : ℕ) (run : Running) (marks : List ℕ) (d 
   pub done : d ≡ record { finished = all_zero marks'; highest = highest; steps = run.memory.steps; emitted = emitted; outputs = run.memory.outputs }
   pub marks-are : marks' ≡ take (length marks) run.states
   pub vars-are : vars' ≡ run.memory.vars
-
--- of n events i were taken: refusal 12 at the next, or none where none is left
-abbrev pub stop_at : ℕ → ℕ → Option Refusal
-stop_at n i = if ltb i n then some (refusal 12 i) else none

@@ -24,7 +24,7 @@ pub fn has_room(made: u64, outputs: u32, out: &[u8]) -> bool
 fn is_event(event: u32) -> bool
     ensures { result ≡ within 1 most_name event }
 {
-    event >= 1 && event as usize <= Limits::NAME
+    (1..=Limits::NAME).contains(&(event as usize))
 }
 
 // A test of the whole: what fails it is refused at place 0.

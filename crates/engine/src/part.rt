@@ -53,6 +53,7 @@ pub fn down<'a>(program: Construct<'a>, reach: Reach, states: &[u32; Limits::REC
 {
     let mut path = Path::new(program);
     let mut at = program;
+    // From part to part: nothing is counted here.
     while at.place < reach.from {
         let Some(part) = part_of(at, reach, states) else {
             return path;

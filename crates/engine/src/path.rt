@@ -15,13 +15,14 @@ pub struct Path<'a> {
 }
 
 impl<'a> Path<'a> {
-    // No step yet, from this construct on. A place is below 256, so that two bytes hold it.
+    // No step yet, from this construct on.
     pub fn new(top: Construct<'a>) -> Path<'a>
         ensures table { result.table.now ≡ top.entry.table.now }
         ensures steps { result.steps ≡ 0 }
         ensures top { get_or result.places 0 0 ≡ top.entry.place }
     {
         let mut places = [0; Limits::RECORDS];
+        // A place is below 256: a conversion that may fail would be no plainer.
         places[0] = top.place as u16;
         Path {
             table: top.table,
@@ -30,7 +31,7 @@ impl<'a> Path<'a> {
         }
     }
 
-    // One step more, down to a part.
+    // One step more, down to a part, whose place is below 256 too.
     pub fn push(&mut self, part: Construct<'a>)
         requires table { part.table.now ≡ self.old.table.now }
         requires below { get_or self.old.places self.old.steps 0 < part.place }

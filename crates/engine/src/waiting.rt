@@ -1,4 +1,5 @@
 // Records that wait: an await, an every, an emit that waits for its turn, a fin.
+// A state is a number, since theory's `react-on-states` speaks of lists of them: 0 idle, 1 waiting, 2 woken, above these a turn.
 ghost use Rattle.std.specs.Prelude.{◌≡◌, ◌+◌, ◌<◌, ◌≤◌};
 ghost use Rattle.rules.specs.Table.{kind_at};
 ghost use Rattle.theory.specs.State.{resume_await, resume_fin, resume_every};

@@ -5,7 +5,7 @@ use Rattle.rules.specs.Stages.{stage}
 use Rattle.rules.specs.Check.{refused}
 use Rattle.rules.specs.Lists.{list_fails}
 use Rattle.calls.specs.Stages.{standing_stages}
-use Rattle.calls.proofs.Judging.{standing-first, stays-refused, goes_on_lem, accepts-all, fails-first, passes-first, low-place}
+use Rattle.calls.proofs.Judging.{standing-first, stays-refused, goes_on_lem, accepts-all, fails-first, passes-first}
 use Rattle.calls.proofs.stages.run_stages.Goals as goal
 
 pub returns-in_err-announced : goal.returns-in_err-announced
@@ -14,9 +14,6 @@ returns-in_err-announced c =
     let last = stage 10 (list_fails c.args.events.now) ∷ [] in
     let p = err_from_is_err_and c.from_residual.result c.from_residual.ensures.1 in
     rw (p.1, p.2) (stays-refused b (standing_stages b c.args.marks.now c.args.vars.now) c.standing_stages.ensures last c.in_err-announced.was ∙ sym (standing-first b c.args.marks.now c.args.vars.now last))
-
-pub at-requires : goal.at-requires
-at-requires c = low-place c.in-Some.is c.first_bad.ensures.low
 
 pub returns-in-Some : goal.returns-in-Some
 returns-in-Some c =
