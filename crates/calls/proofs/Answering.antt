@@ -13,7 +13,7 @@ use lib.IntN.{ℤ}
 use lib.ListN.{length, get_or, take}
 use lib.Seq.{ext_get_or, get_or-take, length-take-le}
 use Rattle.rules.specs.Stages.{Refusal, Stage, first_refusal}
-use Rattle.rules.specs.Limits.{most_records, top_total, variables}
+use Rattle.rules.specs.Limits.{most_records, top_total}
 use Rattle.rules.specs.Table.{kind_at, records_of}
 use Rattle.rules.specs.Check.{announced}
 use Rattle.rules.specs.Marks.{all_zero, marks_stages, may_mark}

@@ -6,7 +6,7 @@ use mathlib.Core.Path.{◌≡◌, refl, sym, ap, ◌∙◌}
 use mathlib.Core.Bool.{Bool, true, false, ◌&&◌}
 use mathlib.Core.List.{List, [], ◌∷◌, ◌++◌, append_assoc}
 use mathlib.Core.Option.{Option, none, some}
-use Prim.Native.Nat.{ℕ, ◌+◌, ◌/◌, ◌^◌, ◌<◌}
+use Prim.Native.Nat.{ℕ, ◌+◌, ◌/◌, ◌<◌}
 use native.Mathlib.Nat.{zero-add}
 use lib.Dec.{leb, ltb}
 use borrow.Author.Tests.{ltb-true}
@@ -28,7 +28,7 @@ use Rattle.table.specs.declared.refusal.Refusal as Code
 use Rattle.table.specs.Found.{first_of}
 use Rattle.table.proofs.Finding.{found-fails, found_none}
 use Rattle.marks.specs.Fitting.{refused_at}
-use Rattle.calls.specs.Stages.{Low, judged, standing_stages}
+use Rattle.calls.specs.Stages.{judged, standing_stages}
 
 -- what the first stages refuse, and what they let pass
 first_some : (xs ys : List Stage) {r : Refusal} → first_refusal xs ≡ some r → first_refusal (xs ++ ys) ≡ some r
