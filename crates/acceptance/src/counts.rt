@@ -48,6 +48,7 @@ impl Tally {
 }
 
 // With a construct and all below it; none where one of them fails stage 4, 5, 6 or 7.
+#[tactic(auto, using(crate::proofs::Counting::counting))]
 fn count(visit: Visit<'_>, tally: Tally) -> Option<Tally>
     ensures { result ≡ counted (walk_of visit.entry) tally }
 {
@@ -59,8 +60,9 @@ fn count(visit: Visit<'_>, tally: Tally) -> Option<Tally>
         0 => Some(tally),
         1 => count(visit.first(), tally),
         _ => {
-            let tally = count(visit.first(), tally)?;
-            count(visit.second(), tally)
+            let (left, right) = (visit.first(), visit.second());
+            let tally = count(left, tally)?;
+            count(right, tally)
         }
     }
 }
