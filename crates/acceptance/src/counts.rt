@@ -11,7 +11,7 @@ use memory::Act;
 use rules::Limits;
 use table::{Construct, Kind};
 
-// Emits, the deepest nesting of loops, outputs outside and inside an every.
+// How many emits, how deep loops nest, how many outputs outside and inside an every.
 #[derive(Clone, Copy, Debug, PartialEq, Eq, Default)]
 pub struct Tally {
     pub emits: u16,
@@ -87,6 +87,7 @@ impl Tally {
     {
         let emits = self.emits;
         let loops = self.deepest;
+        // All four fit 32 bits, as the limits say: a test of that would have an outcome that never comes.
         Announced {
             emitted: Limits::emitted(emits, loops) as u32,
             highest: Limits::level(emits, loops) as u32,
