@@ -41,25 +41,28 @@ counted-append (u ∷ us) vs t = go (passes u) (counted-append us vs (with_visit
     go true h = h
     go false h = refl
 
--- ---- of the walk from a construct; r is whether it passes, u the tally with it
-module _ (v : Visit) (t : Tally) {r : Bool} (q : r ≡ passes (visit_of v)) where
-  pub fails_here : r ≡ false → None ≡ counted (walk_of v) t
-  fails_here e = sym (rw (walk_at v.at.table.now v.at.place v.at.stands.place (around_of v.around)) (fails (visit_of v) (below_at (children_of (kind_at v.at.table.now v.at.place)) v.at.table.now (inner (kind_at v.at.table.now v.at.place) (around_of v.around)) v.at.place) t (sym q ∙ e)))
+-- ---- of the walk from a construct
 
-  module _ (e : r ≡ true) {u : Tally} (c : u ≡ with_visit (visit_of v) t) where
-    pub counted_leaf : children_of (kind_at v.at.table.now v.at.place) ≡ 0 → Some u ≡ counted (walk_of v) t
-    counted_leaf n = sym (ap (λ vs. counted vs t) (walk-leaf v n) ∙ (goes (visit_of v) [] t (sym q ∙ e) ∙ rw c (none _)))
+module _ (v : Visit) (t : Tally) where
+  pub fails_here : passes (visit_of v) ≡ false → counted (walk_of v) t ≡ None
+  fails_here e = rw (walk_at v.at.table.now v.at.place v.at.stands.place (around_of v.around)) (fails (visit_of v) (below_at (children_of (kind_at v.at.table.now v.at.place)) v.at.table.now (inner (kind_at v.at.table.now v.at.place) (around_of v.around)) v.at.place) t e)
 
-    module _ (w : Visit) (h : IsFirst v w) {x : Option Tally} (p : x ≡ counted (walk_of w) u) where
-      pub counted_one : children_of (kind_at v.at.table.now v.at.place) ≡ 1 → x ≡ counted (walk_of v) t
-      counted_one n = p ∙ sym (ap (λ vs. counted vs t) (walk-one v n w h) ∙ (goes (visit_of v) (walk_of w) t (sym q ∙ e) ∙ rw c))
+  module _ (e : passes (visit_of v) ≡ true) where
+    pub counted_leaf : children_of (kind_at v.at.table.now v.at.place) ≡ 0 → counted (walk_of v) t ≡ Some (with_visit (visit_of v) t)
+    counted_leaf n = ap (λ vs. counted vs t) (walk-leaf v n) ∙ (goes (visit_of v) [] t e ∙ none _)
+
+    module _ (w : Visit) (h : IsFirst v w) where
+      pub counted_one : children_of (kind_at v.at.table.now v.at.place) ≡ 1 → counted (walk_of v) t ≡ counted (walk_of w) (with_visit (visit_of v) t)
+      counted_one n = ap (λ vs. counted vs t) (walk-one v n w h) ∙ goes (visit_of v) (walk_of w) t e
 
       module _ (n : 2 ≤ children_of (kind_at v.at.table.now v.at.place)) where
-        both : counted (walk_of v) t ≡ then_counted x (walk_second v)
-        both = ap (λ vs. counted vs t) (walk-two v n w h) ∙ (goes (visit_of v) (walk_of w ++ walk_second v) t (sym q ∙ e) ∙ (ap (counted (walk_of w ++ walk_second v)) (sym c) ∙ rw p (counted-append (walk_of w) (walk_second v) u)))
+        both : counted (walk_of v) t ≡ then_counted (counted (walk_of w) (with_visit (visit_of v) t)) (walk_second v)
+        both = ap (λ vs. counted vs t) (walk-two v n w h) ∙ (goes (visit_of v) (walk_of w ++ walk_second v) t e ∙ counted-append (walk_of w) (walk_second v) (with_visit (visit_of v) t))
 
-        pub counted_stops : x ≡ None → None ≡ counted (walk_of v) t
-        counted_stops d = sym (both ∙ rw d)
+        pub counted_stops : counted (walk_of w) (with_visit (visit_of v) t) ≡ None → counted (walk_of v) t ≡ None
+        counted_stops d = both ∙ rw d
 
-        pub counted_goes : {m : Tally} → x ≡ Some m → (z : Visit) → IsSecond v z → {y : Option Tally} → y ≡ counted (walk_of z) m → y ≡ counted (walk_of v) t
-        counted_goes {m} d z k l = l ∙ (ap (λ vs. counted vs m) (second-is v z k) ∙ sym (both ∙ rw d))
+        pub counted_goes : {m : Tally} → counted (walk_of w) (with_visit (visit_of v) t) ≡ Some m → (u : Visit) → IsSecond v u → counted (walk_of v) t ≡ counted (walk_of u) m
+        counted_goes {m} d u k = both ∙ (rw d (ap (λ vs. counted vs m) (sym (second-is v u k))))
+
+pub ruleset counting = (fails_here, counted_leaf, counted_one, counted_stops, counted_goes)

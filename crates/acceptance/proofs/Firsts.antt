@@ -41,25 +41,28 @@ module _ (f : Rules.Visit → Bool) where
       go true h = refl
       go false h = h
 
-  -- ---- of the walk from a construct; r is what was answered there
-  module _ (v : Visit) {r : Bool} (q : r ≡ f (visit_of v)) where
-    pub first-here : r ≡ true → Some v.at.place ≡ first f (walk_of v)
-    first-here e = sym (ap (first f) (walk_at v.at.table.now v.at.place v.at.stands.place (around_of v.around)) ∙ hit (visit_of v) (below_at (children_of (kind_at v.at.table.now v.at.place)) v.at.table.now (inner (kind_at v.at.table.now v.at.place) (around_of v.around)) v.at.place) (sym q ∙ e))
+-- ---- of the walk from a construct
 
-    module _ (e : r ≡ false) where
-      pub first_leaf : children_of (kind_at v.at.table.now v.at.place) ≡ 0 → None ≡ first f (walk_of v)
-      first_leaf n = sym (ap (first f) (walk-leaf v n) ∙ (miss (visit_of v) [] (sym q ∙ e) ∙ none))
+module _ (f : Rules.Visit → Bool) (v : Visit) where
+  pub first_here : f (visit_of v) ≡ true → first f (walk_of v) ≡ Some v.at.place
+  first_here e = ap (first f) (walk_at v.at.table.now v.at.place v.at.stands.place (around_of v.around)) ∙ hit f (visit_of v) (below_at (children_of (kind_at v.at.table.now v.at.place)) v.at.table.now (inner (kind_at v.at.table.now v.at.place) (around_of v.around)) v.at.place) e
 
-      module _ (w : Visit) (h : IsFirst v w) {x : Option ℕ} (p : x ≡ first f (walk_of w)) where
-        pub first_one : children_of (kind_at v.at.table.now v.at.place) ≡ 1 → x ≡ first f (walk_of v)
-        first_one n = p ∙ sym (ap (first f) (walk-one v n w h) ∙ miss (visit_of v) (walk_of w) (sym q ∙ e))
+  module _ (e : f (visit_of v) ≡ false) where
+    pub first_leaf : children_of (kind_at v.at.table.now v.at.place) ≡ 0 → first f (walk_of v) ≡ None
+    first_leaf n = ap (first f) (walk-leaf v n) ∙ (miss f (visit_of v) [] e ∙ none f)
 
-        module _ (n : 2 ≤ children_of (kind_at v.at.table.now v.at.place)) where
-          both : first f (walk_of v) ≡ or_next x (first f (walk_second v))
-          both = ap (first f) (walk-two v n w h) ∙ (miss (visit_of v) (walk_of w ++ walk_second v) (sym q ∙ e) ∙ rw p (first-append (walk_of w) (walk_second v)))
+    module _ (w : Visit) (h : IsFirst v w) where
+      pub first_one : children_of (kind_at v.at.table.now v.at.place) ≡ 1 → first f (walk_of v) ≡ first f (walk_of w)
+      first_one n = ap (first f) (walk-one v n w h) ∙ miss f (visit_of v) (walk_of w) e
 
-          pub first_left : {i : ℕ} → x ≡ Some i → Some i ≡ first f (walk_of v)
-          first_left d = sym (both ∙ rw d)
+      module _ (n : 2 ≤ children_of (kind_at v.at.table.now v.at.place)) where
+        both : first f (walk_of v) ≡ or_next (first f (walk_of w)) (first f (walk_second v))
+        both = ap (first f) (walk-two v n w h) ∙ (miss f (visit_of v) (walk_of w ++ walk_second v) e ∙ first-append f (walk_of w) (walk_second v))
 
-          pub first_right : x ≡ None → (u : Visit) → IsSecond v u → {y : Option ℕ} → y ≡ first f (walk_of u) → y ≡ first f (walk_of v)
-          first_right d u k l = l ∙ (ap (first f) (second-is v u k) ∙ sym (both ∙ rw d))
+        pub first_left : {i : ℕ} → first f (walk_of w) ≡ Some i → first f (walk_of v) ≡ Some i
+        first_left d = both ∙ rw d
+
+        pub first_right : first f (walk_of w) ≡ None → (u : Visit) → IsSecond v u → first f (walk_of v) ≡ first f (walk_of u)
+        first_right d u k = both ∙ (rw d (ap (first f) (sym (second-is v u k))))
+
+pub ruleset finding = (first_here, first_leaf, first_one)

@@ -1,7 +1,7 @@
 -- A walk from a construct: its own visit, then those of its children.
 -- Assumes nothing.
 use mathlib.Core.Path.{◌≡◌, refl, ◌∙◌}
-use mathlib.Core.Bool.{◌&&◌}
+use mathlib.Core.Bool.{false, ◌&&◌}
 use mathlib.Core.List.{List, [], ◌∷◌, ◌++◌}
 use Prim.Native.Nat.{ℕ, ◌+◌, ◌≤◌}
 use native.Mathlib.Omega.{arith}
@@ -19,6 +19,7 @@ use Rattle.table.proofs.Places.{children-most, root-span}
 use Rattle.table.proofs.Trees.{by_kind, tree-span, tree-program}
 use Rattle.table.specs.declared.construct.Construct.{Construct}
 use Rattle.acceptance.specs.Visits.{around_of, inner, visit_at, visit_of, walk_of, below_at, IsFirst, IsSecond}
+use Rattle.acceptance.specs.declared.visit.Around as Code
 use Rattle.acceptance.specs.declared.visit.Visit.{Visit}
 
 abbrev walk_by : ℕ → List ℕ → Around → ℕ → List Rules.Visit
@@ -50,6 +51,9 @@ module _ (v : Visit) where
   walk-two l w h =
       let n : children_of (kind_at v.at.table.now v.at.place) ≡ 2 = omega (arith, children-most v.at.table.now v.at.place v.at.stands.place) in
       rw (walk_at v.at.table.now v.at.place v.at.stands.place (around_of v.around), n, h.table, h.place, h.around)
+
+pub nothing-is : (a : Code.Around) → a.loops ≡ 0 → a.in_every ≡ false → a.in_fin ≡ false → around_of a ≡ nothing_around
+nothing-is a p q r = rw (p, q, r)
 
 -- the program is the construct at place 0, with nothing around it
 pub whole-walk : (b : List ℕ) {a : Around} → a ≡ nothing_around → walk a (tree_of b 0) ≡ visits_of b

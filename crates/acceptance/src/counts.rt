@@ -11,7 +11,7 @@ use memory::Act;
 use rules::Limits;
 use table::{Construct, Kind};
 
-// Emits, the deepest nesting of loops, outputs outside and inside an every.
+// How many emits, how deep loops nest, how many outputs outside and inside an every.
 #[derive(Clone, Copy, Debug, PartialEq, Eq, Default)]
 pub struct Tally {
     pub emits: u16,
@@ -48,6 +48,7 @@ impl Tally {
 }
 
 // With a construct and all below it; none where one of them fails stage 4, 5, 6 or 7.
+#[tactic(auto, using(crate::proofs::Counting::counting))]
 fn count(visit: Visit<'_>, tally: Tally) -> Option<Tally>
     ensures { result ≡ counted (walk_of visit.entry) tally }
 {
@@ -59,8 +60,9 @@ fn count(visit: Visit<'_>, tally: Tally) -> Option<Tally>
         0 => Some(tally),
         1 => count(visit.first(), tally),
         _ => {
-            let tally = count(visit.first(), tally)?;
-            count(visit.second(), tally)
+            let (left, right) = (visit.first(), visit.second());
+            let tally = count(left, tally)?;
+            count(right, tally)
         }
     }
 }
@@ -85,6 +87,7 @@ impl Tally {
     {
         let emits = self.emits;
         let loops = self.deepest;
+        // All four fit 32 bits, as the limits say: a test of that would have an outcome that never comes.
         Announced {
             emitted: Limits::emitted(emits, loops) as u32,
             highest: Limits::level(emits, loops) as u32,

@@ -1,6 +1,6 @@
-// A construct and what stands around it; stages 4 to 7 there.
+// A construct, its kind and what stands around it; stages 4 to 7 there.
 ghost use Rattle.std.specs.Prelude.{◌≡◌, ◌+◌, ◌≤◌, ◌<◌};
-ghost use Rattle.rules.specs.Check.{nothing_around, visits_of, loose_break, not_plain, deep_loop, endless_loop};
+ghost use Rattle.rules.specs.Check.{visits_of, loose_break, not_plain, deep_loop, endless_loop};
 ghost use Rattle.rules.specs.Table.{kind_at};
 ghost use Rattle.table.specs.Kinds.{children_of};
 ghost use Rattle.table.specs.Named.{kind_number, children};
@@ -10,7 +10,7 @@ use rules::Limits;
 use table::{Construct, Kind};
 
 // So many loops, an every, a fin.
-#[derive(Clone, Copy, Debug, PartialEq, Eq)]
+#[derive(Clone, Copy, Debug, PartialEq, Eq, Default)]
 pub struct Around {
     pub loops: u8,
     pub in_every: bool,
@@ -19,16 +19,6 @@ pub struct Around {
 
 impl Around {
     ghost use Rattle.acceptance.specs.Visits.{around_of, inner};
-
-    pub fn nothing() -> Around
-        ensures { around_of result ≡ nothing_around }
-    {
-        Around {
-            loops: 0,
-            in_every: false,
-            in_fin: false,
-        }
-    }
 
     // What stands around the children of a construct of this kind.
     #[tactic(auto, unfolding(crate::specs::Visits::inner))]
@@ -87,7 +77,7 @@ impl<'a> Visit<'a> {
         ensures construct { result.at ≡ program.entry }
         ensures walk { walk_of result ≡ visits_of program.entry.table.now }
     {
-        Visit::new(program, Around::nothing())
+        Visit::new(program, Around::default())
     }
 
     // A break with no loop around it.
@@ -133,14 +123,14 @@ impl<'a> Visit<'a> {
 
     // The first child, and what stands around it.
     pub fn first(self) -> Visit<'a>
-        requires { 1 ≤ children_of (kind_at self.at.table.now self.at.place) }
+        requires { 1 ≤ children self.kind }
         ensures { IsFirst self.entry result }
     {
         Visit::new(self.at.first(), self.around.within(self.kind))
     }
 
     pub fn second(self) -> Visit<'a>
-        requires { 2 ≤ children_of (kind_at self.at.table.now self.at.place) }
+        requires { 2 ≤ children self.kind }
         ensures { IsSecond self.entry result }
     {
         Visit::new(self.at.second(), self.around.within(self.kind))

@@ -25,7 +25,8 @@ pub fn first_record<F: Fn(Record<'_>) -> bool>(table: &[u8], right: F) -> Option
 }
 
 // The lowest place from a construct on, within it, that fails a test.
-pub fn first_within<F: Fn(Visit<'_>) -> bool>(visit: Visit<'_>, fails: &F) -> Option<usize>
+#[tactic(auto, using(crate::proofs::Firsts::finding))]
+fn first_within<F: Fn(Visit<'_>) -> bool>(visit: Visit<'_>, fails: &F) -> Option<usize>
     requires { F.IsAlwaysCallable fails.now }
     ensures found { Finds (F.post fails.now) (walk_of visit.entry) result }
     ensures inside { Inside visit.entry.at.table.now result }
