@@ -1,6 +1,6 @@
 -- A construct and what stands around it as a node of the rules' walk, and what that walk goes through from it on.
-use Rattle.std.specs.Prelude.{◌≡◌, List, [], ◌++◌, Bool, not, ◌&&◌, ◌||◌, ℕ, zero, suc, ◌+◌, eqb, if◌then◌else◌}
-use Rattle.rules.specs.Table.{kind_at, second_at}
+use Rattle.std.specs.Prelude.{◌≡◌, List, [], ◌++◌, Bool, not, ◌&&◌, ◌||◌, ℕ, zero, suc, ◌+◌, ◌<◌, eqb, if◌then◌else◌}
+use Rattle.rules.specs.Table.{kind_at, span_at, second_at}
 use Rattle.rules.specs.Check as Rules
 use Rattle.rules.specs.Check.{may_end, walk, a_loop, an_every, a_fin, loose_break, not_plain, deep_loop, endless_loop}
 use Rattle.table.specs.Constructs.{tree}
@@ -35,13 +35,15 @@ walk_of v = walk (around_of v.around) (tree v.at)
 abbrev pub passes : Rules.Visit → Bool
 passes v = not (not_plain v || loose_break v || deep_loop v || endless_loop v)
 
--- w is the first child of v, its place and what stands around it
+-- w is the first child of v: its place, that its span is less, and what stands around it
 pub record IsFirst (v w : Visit) : Type 0 where
   pub table : w.at.table.now ≡ v.at.table.now
   pub place : w.at.place ≡ v.at.place + 1
+  pub smaller : span_at w.at.table.now w.at.place < span_at v.at.table.now v.at.place
   pub around : around_of w.around ≡ inner (kind_at v.at.table.now v.at.place) (around_of v.around)
 
 pub record IsSecond (v w : Visit) : Type 0 where
   pub table : w.at.table.now ≡ v.at.table.now
   pub place : w.at.place ≡ second_at v.at.table.now v.at.place
+  pub smaller : span_at w.at.table.now w.at.place < span_at v.at.table.now v.at.place
   pub around : around_of w.around ≡ inner (kind_at v.at.table.now v.at.place) (around_of v.around)
