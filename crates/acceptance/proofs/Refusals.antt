@@ -1,7 +1,6 @@
 -- The verdict from the lowest failing places of the stages, and what a table that passes them has.
 -- Assumes nothing.
-use Rattle.std.specs.Prelude.{if◌then◌else◌, Option, None, Some, Result, Ok, Err, IfOk, IfErr}
-use Rattle.core.specs.Option.{is_some}
+use Rattle.std.specs.Prelude.{if◌then◌else◌, Option, None, Some, Result, Ok, Err, IfOk, IfErr, is_some}
 use mathlib.Core.Path.{◌≡◌, refl, sym, subst, ◌∙◌}
 use mathlib.Core.Bool.{Bool, true, false, not, ◌&&◌, ◌||◌, and-true}
 use mathlib.Core.List.{List, [], ◌∷◌}
