@@ -43,7 +43,7 @@ impl Record<'_> {
     fn span_fits(self) -> bool
         ensures { result ≡ span_fits (row_at self.entry.table.now self.entry.place).children self.entry.table.now (records_of self.entry.table.now) self.entry.place }
     {
-        let Ok(kind) = table::kind_at(self.table, self.place) else {
+        let Ok(kind) = table::read_kind(self.table, self.place) else {
             return false;
         };
         let children = kind.children();
@@ -77,7 +77,7 @@ impl Record<'_> {
     pub fn fits(self) -> bool
         ensures { result ≡ record_fits self.entry.table.now self.entry.place }
     {
-        let Ok(kind) = table::kind_at(self.table, self.place) else {
+        let Ok(kind) = table::read_kind(self.table, self.place) else {
             return false;
         };
         let ranges = Ranges::of(kind);

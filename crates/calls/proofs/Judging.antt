@@ -129,15 +129,23 @@ module _ (b : List ℕ) (xs : List Stage) {x : code.Option ℕ} (e : refused_at 
 
 -- ---- the last stage: room for the announced outputs, as the code has them
 
-module _ (b : List ℕ) (xs : List Stage) {x : Result Announced Code.Refusal} (e : verdict_of x ≡ judged b xs) {a : Announced} (h : x ≡ Ok a) (o : List ℕ) {y : Bool} (r : y ≡ leb (0 + a.outputs) (length o / record_bytes)) where
+module _ (b : List ℕ) (xs : List Stage) {x : Result Announced Code.Refusal} (e : verdict_of x ≡ judged b xs) {a : Announced} (h : x ≡ Ok a) (o : List ℕ) {y : Bool} (r : y ≡ leb a.outputs (length o / record_bytes)) where
   same-room : y ≡ leb (announced b).outputs (length o / record_bytes)
-  same-room = rw (zero-add a.outputs) at r ∙ ap (λ (n : Rules.Announced). leb n.outputs (length o / record_bytes)) (sym (all-passed b xs e h).1)
+  same-room = r ∙ ap (λ (n : Rules.Announced). leb n.outputs (length o / record_bytes)) (sym (all-passed b xs e h).1)
 
-  pub room-fails : {q : Refusal} → (y ≡ false) × (q ≡ refusal 11 0) → refused q ≡ judged b (room_stage (announced b).outputs o ∷ [])
-  room-fails = test-fails b 11 [] same-room
+  pub fails-room : y ≡ false → judged b (room_stage (announced b).outputs o ∷ []) ≡ refused (refusal 11 0)
+  fails-room = fails-test b 11 [] same-room
 
   pub passes-room : y ≡ true → judged b (room_stage (announced b).outputs o ∷ []) ≡ judged b []
   passes-room = passes-test b 11 [] same-room
+
+-- the same, behind no outputs made
+module _ (b : List ℕ) (xs : List Stage) {x : Result Announced Code.Refusal} (e : verdict_of x ≡ judged b xs) {a : Announced} (h : x ≡ Ok a) (o : List ℕ) {y : Bool} (r : y ≡ leb (0 + a.outputs) (length o / record_bytes)) where
+  pub room-fails : {q : Refusal} → (y ≡ false) × (q ≡ refusal 11 0) → refused q ≡ judged b (room_stage (announced b).outputs o ∷ [])
+  room-fails f = ap refused f.1 ∙ sym (fails-room b xs e h o (rw (zero-add a.outputs) at r) f.0)
+
+  pub room-passes : y ≡ true → judged b (room_stage (announced b).outputs o ∷ []) ≡ judged b []
+  room-passes = passes-room b xs e h o (rw (zero-add a.outputs) at r)
 
 -- ---- stages 1 to 9 before those of the events
 

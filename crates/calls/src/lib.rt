@@ -1,4 +1,5 @@
-// The calls of document 01, for every input: start, react and run_list, without the running totals.
+// The calls of document 01, for every input: start, react and run_list, without the running totals. Table, marks, variables, events and room are parameters of their
+// own, as C lends them.
 #![tactic(auto)]
 
 mod hold;

@@ -34,6 +34,14 @@ use Rattle.engine.specs.Parts.{idling, right_free, Runs, Step, Way, Path}
 
 -- ---- states, one after the other
 
+-- a place is the first of those from i on, or behind it
+first-or-behind : (k i : ℕ) → i ≤ k → {P : Type 0} → (k ≡ i → P) → (i + 1 ≤ k → P) → P
+first-or-behind k i h {P} x y = go (eqb k i) refl
+  where
+    go : (z : Bool) → eqb k i ≡ z → P
+    go true e = x (eqb-true k i e)
+    go false e = y (omega (arith, eqb-false k i e))
+
 -- a state at one of these places is idle
 idle-at : (l : List ℕ) (a b : ℕ) → idling l a b ≡ true → (k : ℕ) → a ≤ k → k < b → get_or l k 0 ≡ 0
 idle-at l a b e k h g = go (eqb (get_or l k 0) 0) refl

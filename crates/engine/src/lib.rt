@@ -13,7 +13,7 @@ mod waiting;
 
 pub use round::{begin, react};
 
-// What a round left: has it come to level 0; the internal events emitted; the highest level.
+// What a round left: has it come to level 0, as the theory's round says and no call asks; the internal events emitted; the highest level.
 #[derive(Clone, Copy, Debug, PartialEq, Eq)]
 pub struct Rounded {
     pub grounded: bool,

@@ -1,4 +1,4 @@
-// The way down from the root to a part, as the places of the constructs that hold it.
+// The way down from the root to a part, as the places of the constructs that hold it: an array with their number beside it, as the project has no heap.
 ghost use Rattle.std.specs.Prelude.{◌≡◌, ◌+◌, ◌≤◌, ◌<◌, ℕ, get_or};
 ghost use Rattle.engine.specs.Parts.{Along};
 

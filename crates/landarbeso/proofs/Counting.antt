@@ -1,6 +1,6 @@
 -- The running totals of a reaction and of a list: what the covered call counts is added, and a refused call leaves them.
 -- Assumes nothing.
-use Rattle.std.specs.Prelude.{if◌then◌else◌, Ok, Err}
+use Rattle.std.specs.Prelude.{if◌then◌else◌, Result, Ok, Err}
 use mathlib.Core.Path.{◌≡◌, refl, sym, ap, subst, ◌∙◌}
 use mathlib.Core.Bool.{Bool, true, false}
 use mathlib.Core.List.{List, [], ◌∷◌}
@@ -20,7 +20,7 @@ use Rattle.table.specs.declared.refusal.Refusal as Stopped
 use Rattle.totals.specs.Sum.{totals_of, Counted}
 use Rattle.totals.specs.declared.Totals as Code
 use Rattle.calls.specs.Stages.{react_stages, run_stages}
-use Rattle.calls.specs.Answers.{lent, lent_of, no_totals, with_totals, add_totals, Uncounted, Ran}
+use Rattle.calls.specs.Answers.{lent, lent_of, no_totals, with_totals, add_totals, counting, listed_answer, events_taken, Uncounted, Ran}
 use Rattle.calls.specs.declared.Done.{Done}
 use Rattle.calls.specs.declared.Listed.{Listed}
 use Rattle.calls.proofs.Totals.{react-any, list_any}
@@ -28,9 +28,9 @@ use Rattle.landarbeso.specs.Answers.{flat, flat_done, flat_listed}
 use Rattle.landarbeso.specs.Counted.{Meant}
 
 -- what a call says and leaves, where it differs from one without totals in the totals alone
-means : {o : Outcome} (o₀ : Outcome) {y : Totals} → o ≡ with_totals y o₀ → {f : Option Refusal} → o₀.refused ≡ f → {a : Answer} → o₀.answer ≡ a
+meant : {o : Outcome} (o₀ : Outcome) {y : Totals} → o ≡ with_totals y o₀ → {f : Option Refusal} → o₀.refused ≡ f → {a : Answer} → o₀.answer ≡ a
     → {m : List ℕ} → m ≡ o₀.lent.marks → {v : List ℤ} → v ≡ o₀.lent.vars → {x : List ℕ} → x ≡ o₀.lent.room → {t : Code.Totals} → totals_of t ≡ y → Meant o (flat f a) m v x t
-means o₀ e {f} p {a} q {m} i {v} j {x} k {t} l = subst (λ (z : Outcome). Meant z (flat f a) m v x t) (sym e) (record {
+meant o₀ e {f} p {a} q {m} i {v} j {x} k {t} l = subst (λ (z : Outcome). Meant z (flat f a) m v x t) (sym e) (record {
   answer = ap (λ (g : Option Refusal). flat g a) (sym p) ∙ ap (flat o₀.refused) (sym q);
   marks-are = i;
   vars-are = j;
@@ -41,6 +41,11 @@ means o₀ e {f} p {a} q {m} i {v} j {x} k {t} l = subst (λ (z : Outcome). Mean
 -- so many reactions and steps, as `count` adds them
 added : (t : Code.Totals) {r s r' s' : ℕ} {t' : Code.Totals} → Counted t r s t' → r ≡ r' → s ≡ s' → totals_of t' ≡ add_totals (totals_of t) r' s'
 added t c p q = ap totals_of c.sum ∙ (λ i. add_totals (totals_of t) (p i) (q i))
+
+-- all that a face means, where the totals are counted
+pub means : {o₀ o : Outcome} (t : Code.Totals) (r : Result Listed Stopped.Refusal) {m' : List ℕ} {v' : List ℤ} {x' : List ℕ} {t' : Code.Totals}
+    → o ≡ counting (totals_of t) o₀ → Ran o₀ r m' v' x' → Counted t (events_taken r) (listed_answer r).steps t' → Meant o (flat_listed r) m' v' x' t'
+means {o₀} t r e u c = meant o₀ e u.refused u.answer u.marks-are u.vars-are u.room-is (added t c u.taken (ap (λ (a : Answer). a.steps) (sym u.answer)))
 
 -- ---- a reaction
 
@@ -62,13 +67,13 @@ module _ (b m : List ℕ) (v : List ℤ) (x : List ℕ) (s : Sent) where
   module _ (t : Code.Totals) {m' : List ℕ} {v' : List ℤ} {x' : List ℕ} where
     pub reaction-refused : {r : Stopped.Refusal} → Uncounted (react_call b (lent m v x) s) (Err r) m' v' x' → Meant (react_call b (lent_of m v x (totals_of t)) s) (flat_done (Err r)) m' v' x' t
     unfolding react_call
-    reaction-refused u = means (react_call b (lent m v x) s) (refusal-leaves (totals_of t) (first_refusal (react_stages b m v s.event x)) u.refused) u.refused u.answer u.marks-are u.vars-are u.room-is refl
+    reaction-refused u = meant (react_call b (lent m v x) s) (refusal-leaves (totals_of t) (first_refusal (react_stages b m v s.event x)) u.refused) u.refused u.answer u.marks-are u.vars-are u.room-is refl
 
     pub reaction-counted : {d : Done} {t' : Code.Totals} → Uncounted (react_call b (lent m v x) s) (Ok d) m' v' x' → Counted t 1 d.steps t' → Meant (react_call b (lent_of m v x (totals_of t)) s) (flat_done (Ok d)) m' v' x' t'
     unfolding react_call
     reaction-counted u c =
         let one = takes-one (first_refusal (react_stages b m v s.event x)) u.refused in
-        means (react_call b (lent m v x) s) (react-any m v x (totals_of t) c.reactions-fit c.steps-fit b s) u.refused u.answer u.marks-are u.vars-are u.room-is
+        meant (react_call b (lent m v x) s) (react-any m v x (totals_of t) c.reactions-fit c.steps-fit b s) u.refused u.answer u.marks-are u.vars-are u.room-is
         (added t c one (ap (λ (a : Answer). a.steps) (sym u.answer)))
 
 -- ---- a list
@@ -113,9 +118,9 @@ module _ (b m : List ℕ) (v : List ℤ) (x : List ℕ) where
     module _ (t : Code.Totals) {m' : List ℕ} {v' : List ℤ} {x' : List ℕ} where
       pub list-refused : {r : Stopped.Refusal} → Ran (list_call b (lent m v x) es) (Err r) m' v' x' → Meant (list_call b (lent_of m v x (totals_of t)) es) (flat_listed (Err r)) m' v' x' t
       unfolding list_call
-      list-refused u = means (list_call b (lent m v x) es) (list-leaves (totals_of t) (first_refusal (run_stages b m v es)) u.taken) u.refused u.answer u.marks-are u.vars-are u.room-is refl
+      list-refused u = meant (list_call b (lent m v x) es) (list-leaves (totals_of t) (first_refusal (run_stages b m v es)) u.taken) u.refused u.answer u.marks-are u.vars-are u.room-is refl
 
       pub list-counted : {l : Listed} {t' : Code.Totals} → Ran (list_call b (lent m v x) es) (Ok l) m' v' x' → Counted t l.taken l.done.steps t' → Meant (list_call b (lent_of m v x (totals_of t)) es) (flat_listed (Ok l)) m' v' x' t'
       list-counted u c =
-          means (list_call b (lent m v x) es) (list_any m v x (totals_of t) c.reactions-fit c.steps-fit b es) u.refused u.answer u.marks-are u.vars-are u.room-is
+          meant (list_call b (lent m v x) es) (list_any m v x (totals_of t) c.reactions-fit c.steps-fit b es) u.refused u.answer u.marks-are u.vars-are u.room-is
           (added t c u.taken (ap (λ (a : Answer). a.steps) (sym u.answer)))

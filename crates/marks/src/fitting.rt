@@ -130,7 +130,8 @@ fn fit_at(at: Marked<'_>, fits: &[Fit; Limits::RECORDS]) -> Fit
     }
 }
 
-// One pass from the last place on: where it answers true, stage 8 lets the marks pass; else the walks look for the place.
+// One pass from the last place on: where it answers true, stage 8 lets the marks pass; else the walks look for the place. (Beside `see`, which walks the tree,
+// since marks that pass are the common case, and a pass has no call for each construct.)
 fn all_fit(program: Marked<'_>) -> bool
     ensures { LetsPass program.entry.table.now program.entry.marks.now result }
 {

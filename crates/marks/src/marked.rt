@@ -1,4 +1,5 @@
-// A construct with the marks of its table: a place of a table whose shape is right, and one mark for each record.
+// A construct with the marks of its table: a place of a table whose shape is right, and one mark for each record. (Not table's `Construct` with marks
+// beside it: that has at most 256 records, and `marks_refused` answers for tables of any length.)
 ghost use Rattle.std.specs.Prelude.{◌≡◌, ◌+◌, ◌<◌, ◌≤◌};
 ghost use Rattle.rules.specs.Table.{kind_at, name_at, span_at, second_at, records_of};
 ghost use Rattle.rules.specs.Marks.{may_mark, marked, mark_right};
@@ -49,7 +50,7 @@ impl<'a> Marked<'a> {
     pub fn kind(self) -> Kind
         ensures { Stands self.entry.table.now self.entry.place result }
     {
-        match table::kind_at(self.table, self.place) {
+        match table::read_kind(self.table, self.place) {
             Ok(kind) => kind,
             Err(_) => unreachable!(),
         }

@@ -77,7 +77,7 @@ pub fn number_of(set: u64) -> u32
     set.count_ones()
 }
 
-// 0 for the empty set.
+// 0 for the empty set, as in the rules and for C.
 pub fn lowest_of(set: u64) -> u32
     ensures { result ≡ lowest_bit set }
 {

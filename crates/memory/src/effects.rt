@@ -104,7 +104,7 @@ impl Memory {
         }
     }
 
-    // The same by a kind's number; kinds other than 1 to 7 do nothing.
+    // The same by a kind's number, as docs/PROMISES.md has it (code calls `perform`); kinds other than 1 to 7 do nothing.
     #[tactic(auto, unfolding(crate::specs::Arrays::kind_acts))]
     pub fn act(&mut self, kind: u8, name: usize, number: i32, out: &mut [u8])
         ensures { arrays_of self.new out.new ≡ kind_acts kind name number (arrays_of self.old out.old) }

@@ -9,6 +9,7 @@ use calls::Done;
 use lines::{CallLine, RefusalLine};
 use table::Refusal;
 
+// (No `From`: the line is of crate lines, and a call's has three parts.)
 pub fn of_call(event: u32, value: i32, done: Done) -> CallLine
     ensures { text_of_call result ≡ call_line (sent_of event value) (answer_of done) }
 {

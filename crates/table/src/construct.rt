@@ -1,4 +1,4 @@
-// A construct: a place of a table whose shape is right, and what stands there.
+// A construct: a place of a table whose shape is right, with at most 256 records, and what stands there.
 ghost use Rattle.std.specs.Prelude.{◌≡◌, ◌+◌, ◌<◌, ◌≤◌};
 ghost use Rattle.rules.specs.Table.{name_at, span_at, number_at, kind_at, second_at};
 ghost use Rattle.table.specs.Kinds.{children_of};
@@ -21,7 +21,7 @@ impl<'a> Construct<'a> {
     pub fn kind(self) -> Kind
         ensures { Stands self.entry.table.now self.entry.place result }
     {
-        match record::kind_at(self.table, self.place) {
+        match record::read_kind(self.table, self.place) {
             Ok(kind) => kind,
             Err(_) => unreachable!(),
         }

@@ -1,4 +1,4 @@
-// The fields of the record at a place inside a table.
+// The fields of the record at a place inside a table, by table and place: their shape need not be right (`Construct` has both where it is).
 ghost use Rattle.std.specs.Prelude.{◌≡◌, ◌+◌, ◌<◌, ◌≤◌};
 ghost use Rattle.rules.specs.Limits.{record_bytes};
 ghost use Rattle.rules.specs.Table.{byte_at, kind_at, name_at, span_at, number_at, second_at, records_of};
@@ -18,8 +18,8 @@ fn byte_at(table: &[u8], i: usize, k: usize) -> u8
     table[Limits::RECORD_BYTES * i + k]
 }
 
-// The number of the kind, also one over 19.
-pub fn kind_number_at(table: &[u8], i: usize) -> usize
+// The number of the kind, also one over 19: what docs/PROMISES.md names. Code reads the kind itself, by `read_kind` or `Construct::kind`.
+pub fn kind_at(table: &[u8], i: usize) -> usize
     requires { i < records_of table.now }
     ensures number { result ≡ kind_at table.now i }
     ensures byte { result < 256 }
@@ -28,7 +28,7 @@ pub fn kind_number_at(table: &[u8], i: usize) -> usize
 }
 
 // The kind, or a number over 19.
-pub fn kind_at(table: &[u8], i: usize) -> Result<Kind, NoKind>
+pub fn read_kind(table: &[u8], i: usize) -> Result<Kind, NoKind>
     requires { i < records_of table.now }
     ensures { ReadsKind (kind_at table.now i) result }
 {
@@ -78,7 +78,7 @@ pub fn second_at(table: &[u8], i: usize) -> usize
     i + 1 + span_at(table, i + 1)
 }
 
-// How many children a kind of this number has; 3 for a number over 19.
+// How many children a kind of this number has; 3 for a number over 19. By number, as docs/PROMISES.md has it; code asks `Kind::children`.
 #[tactic(auto, unfolding(crate::specs::Kinds::children_of))]
 pub fn children_of(kind: usize) -> u8
     ensures children { result ≡ children_of kind }
@@ -97,5 +97,5 @@ pub fn children_at(table: &[u8], i: usize) -> u8
     ensures children { result ≡ children_of (kind_at table.now i) }
     ensures most { result ≤ 3 }
 {
-    children_of(kind_number_at(table, i))
+    children_of(kind_at(table, i))
 }

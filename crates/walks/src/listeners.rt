@@ -6,7 +6,7 @@ ghost use Rattle.walks.specs.Listening.{Listens, Tight, reach_of, Noted, Heard};
 
 use crate::part::Reach;
 use rules::Limits;
-use table::{Kind, Source, kind_at, name_at};
+use table::{Kind, Source, name_at, read_kind};
 
 // How many events each source has.
 const EVENTS: usize = Limits::NAME + 1;
@@ -53,7 +53,7 @@ impl Listeners {
         requires small { records_of table.now ≤ most_records }
         ensures { Heard table.now i self.old self.new }
     {
-        let Ok(kind) = kind_at(table, i) else {
+        let Ok(kind) = read_kind(table, i) else {
             return;
         };
         match kind {

@@ -5,7 +5,7 @@ ghost use Rattle.walks.specs.Listening.{PartWith, widened};
 
 use table::{Construct, Kind};
 
-// The places from one on and before another.
+// The places from one on and before another. (std's `Range` is not `Copy`.)
 #[derive(Clone, Copy, Debug, PartialEq, Eq)]
 pub struct Reach {
     pub from: usize,

@@ -8,7 +8,7 @@ ghost use Rattle.walks.specs.Walks.{array_ops};
 use memory::Memory;
 use table::{Construct, Kind};
 
-// A tree of kinds 0 to 7, 12 and 13 runs to its end.
+// A tree of nothings, acts, ifs and sequences runs to its end.
 #[cycle(settle)]
 #[tactic(auto, using(crate::proofs::Nodes::settle_node), unfolding(theory::specs::State::settle))]
 pub fn settle(at: Construct<'_>, memory: &mut Memory, out: &mut [u8])

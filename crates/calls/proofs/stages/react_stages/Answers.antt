@@ -4,7 +4,7 @@ use Rattle.std.proofs.lemmas.Result.{err_from_is_err_and}
 use Rattle.rules.specs.Check.{announced}
 use Rattle.rules.specs.Calls.{event_stage, room_stage}
 use Rattle.calls.specs.Stages.{standing_stages}
-use Rattle.calls.proofs.Judging.{standing-first, stays-refused, goes_on_lem, accepts-all, test-fails, passes-test, room-fails, passes-room}
+use Rattle.calls.proofs.Judging.{standing-first, stays-refused, goes_on_lem, accepts-all, test-fails, passes-test, room-fails, room-passes}
 use Rattle.calls.proofs.stages.react_stages.Goals as goal
 
 pub returns-in_err-announced : goal.returns-in_err-announced
@@ -44,4 +44,4 @@ returns c =
     let go = standing-first b c.args.marks.now c.args.vars.now last ∙ goes_on_lem b first c.standing_stages.ensures c.in_ok-announced.was last in
     let event = passes-test b 10 room c.is_event.ensures c.in_ok-test.ensures in
     accepts-all b first c.standing_stages.ensures c.in_ok-announced.was
-    ∙ sym (go ∙ event ∙ passes-room b first c.standing_stages.ensures c.in_ok-announced.was c.args.out.now c.has_room.ensures c.in_ok-test-2.ensures)
+    ∙ sym (go ∙ event ∙ room-passes b first c.standing_stages.ensures c.in_ok-announced.was c.args.out.now c.has_room.ensures c.in_ok-test-2.ensures)

@@ -4,7 +4,7 @@ use Rattle.std.proofs.lemmas.Result.{err_from_is_err_and}
 use Rattle.rules.specs.Check.{announced, table_stages}
 use Rattle.rules.specs.Marks.{length_stage}
 use Rattle.rules.specs.Calls.{room_stage, vars_stage}
-use Rattle.calls.proofs.Judging.{checks, stays-refused, goes_on_lem, accepts-all, test-fails, passes-test, room-fails, passes-room}
+use Rattle.calls.proofs.Judging.{checks, stays-refused, goes_on_lem, accepts-all, test-fails, passes-test, room-fails, room-passes}
 use Rattle.calls.proofs.stages.start_stages.Goals as goal
 
 pub returns-in_err-announced : goal.returns-in_err-announced
@@ -53,4 +53,4 @@ returns c =
     let go = goes_on_lem b (table_stages b) e c.in_ok-announced.was (length_stage b c.args.marks.now ∷ later) in
     let marks = passes-test b 8 later refl c.in_ok-test.ensures in
     let vars = passes-test b 9 room refl c.in_ok-test-2.ensures in
-    accepts-all b (table_stages b) e c.in_ok-announced.was ∙ sym (go ∙ marks ∙ vars ∙ passes-room b (table_stages b) e c.in_ok-announced.was c.args.out.now c.has_room.ensures c.in_ok-test-3.ensures)
+    accepts-all b (table_stages b) e c.in_ok-announced.was ∙ sym (go ∙ marks ∙ vars ∙ room-passes b (table_stages b) e c.in_ok-announced.was c.args.out.now c.has_room.ensures c.in_ok-test-3.ensures)
