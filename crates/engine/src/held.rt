@@ -18,7 +18,7 @@ fn take_turn(place: usize, right: Construct<'_>, n: u32, run: &mut Running, out:
     ensures { left result run.new out.new ≡ take_turn array_ops n place (exec array_ops n (tree right.entry)) run.old.states (arrays_of run.old.memory out.old) }
 {
     if run.states[place] == n {
-        run.states[place] = 0;
+        run.states[place] = Running::IDLE;
         run.memory.tick();
         run.memory.tick();
         return exec(right, n, run, out);
@@ -38,13 +38,13 @@ pub fn resume_held(fork: Fork<'_>, how: How, n: u32, run: &mut Running, out: &mu
             if fork.par == Par::And {
                 return take_turn(place, fork.right(), n, run, out);
             }
-            run.states[place] = 0;
+            run.states[place] = Running::IDLE;
             How::Ended
         }
         How::Broke => {
             run.memory.tick();
             run.memory.tick();
-            run.states[place] = 0;
+            run.states[place] = Running::IDLE;
             How::Broke
         }
         How::Waiting => {

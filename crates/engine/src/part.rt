@@ -7,8 +7,8 @@ ghost use Rattle.engine.specs.Parts.{right_free, Step, Way};
 use crate::path::Path;
 use rules::Limits;
 use table::{Construct, Kind};
-use walks::Reach;
 use walks::part::part_with;
+use walks::{Reach, Running};
 
 // May the right of the construct run alone?
 #[tactic(auto, unfolding(crate::specs::Parts::right_free))]
@@ -18,10 +18,10 @@ fn right_free(at: Construct<'_>, right: Construct<'_>, states: &[u32; Limits::RE
     ensures { result ≡ right_free at.entry.table.now states.now at.entry.place right.entry.place }
 {
     match at.kind() {
-        Kind::Par(_) => states[at.place] == 0,
+        Kind::Par(_) => states[at.place] == Running::IDLE,
         _ => states[at.place + 1..right.place]
             .iter()
-            .all(|state| *state == 0),
+            .all(|state| *state == Running::IDLE),
     }
 }
 
@@ -35,10 +35,7 @@ fn part_of<'a>(
     ensures table { IfSome result (λ part. part.table.now ≡ at.entry.table.now) }
     ensures step { IfSome result (λ part. Step at.entry.table.now states.now reach at.entry.place part.place) }
 {
-    let part = part_with(at, reach);
-    if part.place == at.place {
-        return None;
-    }
+    let part = part_with(at, reach)?;
     if part.place == at.place + 1 || right_free(at, part, states) {
         return Some(part);
     }

@@ -6,13 +6,13 @@ ghost use Rattle.engine.specs.Parts.{Runs};
 
 use rules::Limits;
 use table::{Construct, Kind};
-use walks::Reach;
+use walks::{Reach, Running};
 
 // Neither woken nor n, a turn at this level.
 fn at_rest(state: u32, n: u32) -> bool
     ensures { result ≡ still_at n state }
 {
-    state != 2 && state != n
+    state != Running::WOKEN && state != n
 }
 
 // Blocked, or nothing lives: each state at the construct and below rests.

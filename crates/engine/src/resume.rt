@@ -116,7 +116,7 @@ pub fn loop_goes_on(body: Construct<'_>, how: How, n: u32, run: &mut Running, ou
 pub fn fork_goes_on(fork: Fork<'_>, how: How, n: u32, run: &mut Running, out: &mut [u8]) -> How
     ensures { left result run.new out.new ≡ par_goes_on array_ops n fork.entry.at.place (par_of fork.entry.par) (left_side fork.entry) (right_side fork.entry) (left how run.old out.old) }
 {
-    if run.states[fork.at.place] != 0 {
+    if run.states[fork.at.place] != Running::IDLE {
         return resume_held(fork, how, n, run, out);
     }
     let second = fork.right();

@@ -24,7 +24,7 @@ fn turn_of(level: u32) -> u32
     requires { level ≤ most_rounds + 1 }
     ensures { result ≡ turn_of level }
 {
-    level + 3
+    level + Running::TURN
 }
 
 // The event that is pending; none is named 0.

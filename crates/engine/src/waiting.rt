@@ -1,5 +1,5 @@
 // Records that wait: an await, an every, an emit that waits for its turn, a fin.
-// A state is a number, since theory's `react-on-states` speaks of lists of them: 0 idle, 1 waiting, 2 woken, above these a turn.
+// A state is a number, since theory's `react-on-states` speaks of lists of them; `Running` names these numbers.
 ghost use Rattle.std.specs.Prelude.{◌≡◌, ◌+◌, ◌<◌, ◌≤◌};
 ghost use Rattle.rules.specs.Table.{kind_at};
 ghost use Rattle.theory.specs.State.{resume_await, resume_fin, resume_every};
@@ -19,9 +19,9 @@ pub fn resume_await(place: usize, states: &mut [u32; Limits::RECORDS]) -> How
     ensures { Rests (resume_await array_ops place states.old) result states.new }
 {
     match states[place] {
-        0 => How::Idle,
-        2 => {
-            states[place] = 0;
+        Running::IDLE => How::Idle,
+        Running::WOKEN => {
+            states[place] = Running::IDLE;
             How::Ended
         }
         _ => How::Waiting,
@@ -32,7 +32,7 @@ pub fn resume_fin(place: usize, states: &[u32; Limits::RECORDS]) -> How
     requires { place < 256 }
     ensures { Rests (resume_fin array_ops place states.now) result states.now }
 {
-    if states[place] == 0 {
+    if states[place] == Running::IDLE {
         How::Idle
     } else {
         How::Waiting
@@ -44,11 +44,11 @@ pub fn resume_emit(place: usize, n: u32, run: &mut Running) -> How
     ensures { Emits n place run.old result run.new }
 {
     let state = run.states[place];
-    if state == 0 {
+    if state == Running::IDLE {
         return How::Idle;
     }
     if state == n {
-        run.states[place] = 0;
+        run.states[place] = Running::IDLE;
         run.memory.tick();
         return How::Ended;
     }
@@ -61,9 +61,9 @@ pub fn resume_every(every: Construct<'_>, run: &mut Running, out: &mut [u8]) -> 
     ensures { left result run.new out.new ≡ resume_every array_ops (tree_of every.entry.table.now (every.entry.place + 1)) every.entry.place run.old.states (arrays_of run.old.memory out.old) }
 {
     match run.states[every.place] {
-        0 => How::Idle,
-        2 => {
-            run.states[every.place] = 1;
+        Running::IDLE => How::Idle,
+        Running::WOKEN => {
+            run.states[every.place] = Running::WAITING;
             settle(every.first(), &mut run.memory, out);
             run.memory.tick();
             How::Waiting

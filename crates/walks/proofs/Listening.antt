@@ -9,16 +9,20 @@ use Rattle.rules.specs.Limits.{most_records}
 use Rattle.rules.specs.Table.{kind_at, name_at, span_at, second_at, records_of}
 use Rattle.theory.specs.State.{wake_at}
 use Rattle.table.specs.Kinds.{children_of}
+use Rattle.table.specs.Named.{kind_number, children}
 use Rattle.table.specs.Places.{Place}
+use Rattle.table.specs.declared.kind.Kind.{Kind}
+use Rattle.table.specs.declared.kind.Kind.TheVariants as kind
+use Rattle.table.specs.declared.kind.Par.{Par}
 use Rattle.table.specs.declared.kind.Source.{Source}
 use Rattle.table.specs.declared.kind.Source.TheVariants.{Input, Internal}
-use Rattle.table.proofs.Places.{span_pos, down-place, next_place}
+use Rattle.table.proofs.Places.{down-place, next_place}
 use Rattle.table.proofs.Trees.{span-inside}
 use Rattle.walks.specs.Walks.{hears}
 use Rattle.walks.specs.declared.listeners.Listeners.{Listeners}
 use Rattle.walks.specs.declared.part.Reach.{Reach}
-use Rattle.walks.specs.Listening.{Hear, nowhere, anywhere, widened_if, heard, reach_of, Tight, Listens, PartWith, itself, the-body, the-left, the-right, HeardIn}
-use Rattle.walks.proofs.Waking.{woken, woken_at, awake-record, woken-along, loop-down}
+use Rattle.walks.specs.Listening.{Hear, nowhere, anywhere, widened_if, heard, reach_of, Tight, Listens, PartWith, NoPartWith, the-body, the-left, the-right, HeardIn}
+use Rattle.walks.proofs.Waking.{act-most, woken, woken_at, awake-record, woken-along}
 
 -- ---- every listener counts
 
@@ -81,25 +85,34 @@ module _ (b : List ℕ) (x : Source) (e : ℕ) where
 
     -- nobody listens beside the part
     pub part-hears : (i : ℕ) → Place b i → {k : ℕ} → PartWith b i r k → (l : List ℕ) → woken b x e k l ≡ woken b x e i l
-    part-hears i p itself l = refl
     part-hears i p (the-body c) l = sym (awake-record b i p l x e ∙ rw (ne_eqb (children_of (kind_at b i)) 2 (λ q. loop-alone (kind_at b i) c q), eq-eqb (kind_at b i) 14 c))
     part-hears i p (the-left c h) l = sym (awake-record b i p l x e ∙ rw (eq-eqb (children_of (kind_at b i)) 2 c) (deaf-behind (second_at b i) (next_place b i p (omega arith)) (woken b x e (i + 1) l) h))
     part-hears i p (the-right c h) l = sym (awake-record b i p l x e ∙ rw (eq-eqb (children_of (kind_at b i)) 2 c) (ap (woken b x e (second_at b i)) (deaf-before (i + 1) (down-place b i p (omega arith)) l (omega arith))))
 
 -- ---- the part
 
-module _ (b : List ℕ) {r : Reach} where
-  pub part-place : (i : ℕ) → Place b i → {k : ℕ} → PartWith b i r k → Place b k
-  part-place i p itself = p
-  part-place i p (the-body c) = down-place b i p (loop-down (kind_at b i) c)
-  part-place i p (the-left c h) = down-place b i p (omega arith)
-  part-place i p (the-right c h) = next_place b i p (omega arith)
+-- a record that is no loop and has no two children
+pub no-holder : (k : Kind) → (k ≡ kind.If → ⊥) → (k ≡ kind.Sequence → ⊥) → (k ≡ kind.Loop → ⊥) → ((o : Par) → k ≡ kind.Par o → ⊥) → (kind_number k ≡ 14 → ⊥) × (children k ≡ 2 → ⊥)
+no-holder kind.Nothing f g h p = (λ e. omega arith, λ e. omega arith)
+no-holder (kind.Act a) f g h p = (λ e. omega (arith, act-most a), λ e. omega arith)
+no-holder (kind.Await Input) f g h p = (λ e. omega arith, λ e. omega arith)
+no-holder (kind.Await Internal) f g h p = (λ e. omega arith, λ e. omega arith)
+no-holder kind.Emit f g h p = (λ e. omega arith, λ e. omega arith)
+no-holder kind.Break f g h p = (λ e. omega arith, λ e. omega arith)
+no-holder kind.If f g h p = absurd (f refl)
+no-holder kind.Sequence f g h p = absurd (g refl)
+no-holder kind.Loop f g h p = absurd (h refl)
+no-holder (kind.Every Input) f g h p = (λ e. omega arith, λ e. omega arith)
+no-holder (kind.Every Internal) f g h p = (λ e. omega arith, λ e. omega arith)
+no-holder (kind.Par o) f g h p = absurd (p o refl)
+no-holder kind.Fin f g h p = (λ e. omega arith, λ e. omega arith)
 
-  pub part-below : (i : ℕ) → Place b i → {k : ℕ} → PartWith b i r k → (k ≡ i → ⊥) → i < k
-  part-below i p itself n = absurd (n refl)
-  part-below i p (the-body c) n = omega arith
-  part-below i p (the-left c h) n = omega arith
-  part-below i p (the-right c h) n = omega (arith, span_pos b (i + 1) (down-place b i p (omega arith)))
+module _ (b : List ℕ) {r : Reach} where
+  -- of a construct that is no loop and whose parts, if it has two, each leave out a place
+  pub no-part : (i : ℕ) → (kind_at b i ≡ 14 → ⊥) → (children_of (kind_at b i) ≡ 2 → (second_at b i < r.to) × (r.from < second_at b i)) → NoPartWith b i r
+  no-part i n h k (the-body c) = absurd (n c)
+  no-part i n h k (the-left c g) = absurd (omega (arith, (h c).0))
+  no-part i n h k (the-right c g) = absurd (omega (arith, (h c).1))
 
   pub part-heard : (i : ℕ) → Place b i → {k : ℕ} → PartWith b i r k → HeardIn b r i → HeardIn b r k
   part-heard i p w h x e hear l = part-hears b x e r hear i p w l ∙ h x e hear l

@@ -85,7 +85,7 @@ unfolding hears waits
 hears_none n f g v Input e = rw (ne_eqb n 8 (λ h. omega arith), ne_eqb n 15 (λ h. omega arith))
 hears_none n f g v Internal e = rw (ne_eqb n 9 (λ h. omega arith), ne_eqb n 16 (λ h. omega arith))
 
-act-most : (a : Act) → act_kind (act_of a) < 8
+pub act-most : (a : Act) → act_kind (act_of a) < 8
 act-most Assign = omega arith
 act-most Increase = omega arith
 act-most Copy = omega arith

@@ -69,12 +69,15 @@ Heard b i l l' = (s : Source) (e : ℕ) → e < 64 → reach_of l' s e ≡ widen
 
 -- ---- parts
 
--- the part of the construct at place i that has all places of the reach; i where none has
+-- the part of the construct at place i that has all places of the reach
 pub data PartWith (b : List ℕ) (i : ℕ) (r : Reach) : ℕ → Type 0 where
-  itself : PartWith b i r i
   the-body : kind_at b i ≡ 14 → PartWith b i r (i + 1)
   the-left : children_of (kind_at b i) ≡ 2 → r.to ≤ second_at b i → PartWith b i r (i + 1)
   the-right : children_of (kind_at b i) ≡ 2 → second_at b i ≤ r.from → PartWith b i r (second_at b i)
+
+-- no part has
+abbrev pub NoPartWith : List ℕ → ℕ → Reach → Type 0
+NoPartWith b i r = (k : ℕ) → PartWith b i r k → ⊥
 
 -- all that may hear in the program stands at place k and below
 abbrev pub HeardIn : List ℕ → Reach → ℕ → Type 0

@@ -21,8 +21,8 @@ pub fn clear(at: Construct<'_>, run: &mut Running, out: &mut [u8]) -> bool
         Kind::Loop => clear(at.first(), run, out),
         // Where its right had not started, that is idle.
         Kind::Par(_) => {
-            let held = run.states[at.place] != 0;
-            run.states[at.place] = 0;
+            let held = run.states[at.place] != Running::IDLE;
+            run.states[at.place] = Running::IDLE;
             let left = clear(at.first(), run, out);
             let right = held || clear(at.second(), run, out);
             if left && right {
@@ -31,16 +31,16 @@ pub fn clear(at: Construct<'_>, run: &mut Running, out: &mut [u8]) -> bool
             left || right
         }
         Kind::Fin => {
-            let lived = run.states[at.place] != 0;
+            let lived = run.states[at.place] != Running::IDLE;
             if lived {
-                run.states[at.place] = 0;
+                run.states[at.place] = Running::IDLE;
                 settle(at.first(), &mut run.memory, out);
             }
             lived
         }
         _ => {
-            let lived = run.states[at.place] != 0;
-            run.states[at.place] = 0;
+            let lived = run.states[at.place] != Running::IDLE;
+            run.states[at.place] = Running::IDLE;
             lived
         }
     }

@@ -93,7 +93,7 @@ pub fn exec(at: Construct<'_>, n: u32, run: &mut Running, out: &mut [u8]) -> How
         }
         Kind::Par(par) => exec_par(at, par, n, run, out),
         Kind::Await(_) | Kind::Every(_) | Kind::Fin => {
-            run.states[at.place] = 1;
+            run.states[at.place] = Running::WAITING;
             How::Waiting
         }
     }

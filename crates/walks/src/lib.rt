@@ -1,4 +1,4 @@
-// The walks that resume and the round are made of, over one state for each record: 0 idle, 1 waiting, 2 woken, 3 + m a turn of level m.
+// The walks that resume and the round are made of, over one state for each record: idle, waiting, woken or a turn of a level.
 #![tactic(auto)]
 
 pub mod clear;

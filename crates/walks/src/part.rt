@@ -1,7 +1,7 @@
 // A construct's part that has all places of a range.
-ghost use Rattle.std.specs.Prelude.{◌≡◌, ◌<◌};
+ghost use Rattle.std.specs.Prelude.{◌≡◌, ◌<◌, IfSome, IfNone};
 ghost use Rattle.rules.specs.Limits.{most_records};
-ghost use Rattle.walks.specs.Listening.{PartWith, widened};
+ghost use Rattle.walks.specs.Listening.{PartWith, NoPartWith, widened};
 
 use table::{Construct, Kind};
 
@@ -25,23 +25,25 @@ impl Reach {
     }
 }
 
-// The construct itself where no part has them all.
-pub fn part_with<'a>(at: Construct<'a>, reach: Reach) -> Construct<'a>
-    ensures table { result.table.now ≡ at.entry.table.now }
-    ensures part { PartWith at.entry.table.now at.entry.place reach result.place }
+// None where no part has them all.
+pub fn part_with<'a>(at: Construct<'a>, reach: Reach) -> Option<Construct<'a>>
+    ensures table { IfSome result (λ part. part.table.now ≡ at.entry.table.now) }
+    ensures below { IfSome result (λ part. at.entry.place < part.place) }
+    ensures part { IfSome result (λ part. PartWith at.entry.table.now at.entry.place reach part.place) }
+    ensures none { IfNone result (NoPartWith at.entry.table.now at.entry.place reach) }
 {
     match at.kind() {
-        Kind::Loop => at.first(),
+        Kind::Loop => Some(at.first()),
         Kind::If | Kind::Sequence | Kind::Par(_) => {
             let second = at.second();
             if reach.to <= second.place {
-                return at.first();
+                return Some(at.first());
             }
             if second.place <= reach.from {
-                return second;
+                return Some(second);
             }
-            at
+            None
         }
-        _ => at,
+        _ => None,
     }
 }

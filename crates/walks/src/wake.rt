@@ -7,6 +7,7 @@ ghost use Rattle.walks.specs.Walks.{event_from};
 ghost use Rattle.walks.specs.Listening.{Hear, HeardIn};
 
 use crate::part::{Reach, part_with};
+use crate::running::Running;
 use rules::Limits;
 use table::{Construct, Kind, Source};
 
@@ -23,26 +24,22 @@ fn awake(at: Construct<'_>, source: Source, event: usize, states: &mut [u32; Lim
         }
         Kind::Loop => awake(at.first(), source, event, states),
         Kind::Await(awaited) | Kind::Every(awaited) => {
-            if awaited == source && at.name() == event && states[at.place] == 1 {
-                states[at.place] = 2;
+            if awaited == source && at.name() == event && states[at.place] == Running::WAITING {
+                states[at.place] = Running::WOKEN;
             }
         }
         _ => {}
     }
 }
 
-// The smallest construct that has all places of the reach. The loop counts no index: it goes from a construct to its part.
+// The smallest construct that has all who listen within the reach, from part to part.
 fn holder<'a>(program: Construct<'a>, reach: Reach) -> Construct<'a>
     requires { program.place ≡ 0 }
     ensures table { result.table.now ≡ program.entry.table.now }
     ensures heard { HeardIn program.entry.table.now reach result.place }
 {
     let mut at = program;
-    while at.place < reach.from {
-        let part = part_with(at, reach);
-        if part.place == at.place {
-            return at;
-        }
+    while let Some(part) = part_with(at, reach) {
         at = part;
     }
     at
