@@ -14,8 +14,8 @@ const EVENTS: usize = Limits::NAME + 1;
 // The reach of each event's listeners, by the event's number.
 #[derive(Drop)]
 pub struct Listeners {
-    input: [Reach; EVENTS],
-    internal: [Reach; EVENTS],
+    pub input: [Reach; EVENTS],
+    pub internal: [Reach; EVENTS],
 }
 
 impl Listeners {
