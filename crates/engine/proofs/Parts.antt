@@ -29,7 +29,7 @@ use Rattle.table.proofs.Places.{children-from, root-span, span_pos, down-place, 
 use Rattle.table.proofs.Trees.{by_kind, tree-kind, tree-span, span-inside}
 use Rattle.table.proofs.Laid.{place_at, laid-at}
 use Rattle.walks.specs.declared.part.Reach.{Reach}
-use Rattle.walks.specs.Listening.{PartWith, the-body, the-left, the-right}
+use Rattle.walks.specs.Listening.{Within, the-body, the-left, the-right}
 use Rattle.engine.specs.Parts.{idling, right_free, Runs, Step, Way, Path}
 
 -- ---- states, one after the other
@@ -123,7 +123,7 @@ either-kind kind.Fin h n = absurd (omega arith)
 -- ---- the part of a construct
 
 -- one that is not the first has a left beside it
-pub right-sides : (b : List ℕ) (i : ℕ) {r : Reach} {k : ℕ} → PartWith b i r k → (k ≡ i + 1 → ⊥) → 2 ≤ children_of (kind_at b i)
+pub right-sides : (b : List ℕ) (i : ℕ) {r : Reach} {k : ℕ} → Within b i r k → (k ≡ i + 1 → ⊥) → 2 ≤ children_of (kind_at b i)
 right-sides b i (the-body e) n = absurd (n refl)
 right-sides b i (the-left c g) n = absurd (n refl)
 right-sides b i (the-right c g) n = omega arith
@@ -180,7 +180,7 @@ module _ (b l : List ℕ) where
           go (pair-par or e) = right-of-par own (free (omega arith)) q
 
     -- the part is the first, or its right may run alone
-    pub part_step : {k : ℕ} → PartWith b i reach k → (k ≡ i + 1) ⊎ (right_free b l i k ≡ true) → Step b l reach i k
+    pub part_step : {k : ℕ} → Within b i reach k → (k ≡ i + 1) ⊎ (right_free b l i k ≡ true) → Step b l reach i k
     part_step (the-body e) f = record { place = down-place b i p (children-from 14 e tt); below = omega arith; only = λ n r. only-body n r e }
     part_step (the-left c g) f = record { place = down-place b i p (omega arith); below = omega arith; only = λ n r. only-left n r c g }
     part_step (the-right c g) (inl e) = absurd (omega (arith, span_pos b (i + 1) (down-place b i p (omega arith))))

@@ -1,6 +1,6 @@
 -- Every listener of every event is counted; and where nobody listens, awake changes nothing.
 -- Assumes nothing.
-use Rattle.std.proofs.Common.{◌≡◌, refl, sym, ap, ◌∙◌, arith, ℕ, zero, suc, ◌+◌, ◌≤◌, ◌<◌, List, Bool, true, false, eqb, ltb, if◌then◌else◌}
+use Rattle.std.proofs.Common.{◌≡◌, refl, sym, ap, ◌∙◌, arith, inl, inr, ℕ, zero, suc, ◌+◌, ◌≤◌, ◌<◌, List, Bool, true, false, eqb, ltb, if◌then◌else◌}
 use lib.ListN.{get_or, set, replicate}
 use Rattle.std.proofs.lemmas.List.{get_or-replicate}
 use lib.Seq.{get_or-set_other}
@@ -21,7 +21,7 @@ use Rattle.table.proofs.Trees.{span-inside}
 use Rattle.walks.specs.Walks.{hears}
 use Rattle.walks.specs.declared.listeners.Listeners.{Listeners}
 use Rattle.walks.specs.declared.part.Reach.{Reach}
-use Rattle.walks.specs.Listening.{Hear, nowhere, anywhere, widened_if, heard, reach_of, Tight, Listens, PartWith, NoPartWith, the-body, the-left, the-right, HeardIn}
+use Rattle.walks.specs.Listening.{Hear, nowhere, anywhere, widened_if, heard, reach_of, Tight, Listens, Within, NoneWithin, the-body, the-left, the-right, HeardIn, PartWith}
 use Rattle.walks.proofs.Waking.{act-most, woken, woken_at, awake-record, woken-along}
 
 -- ---- every listener counts
@@ -84,10 +84,14 @@ module _ (b : List ℕ) (x : Source) (e : ℕ) where
     deaf-all i p l h = deaf-part i p (λ k y z q. let w = hear k (omega (arith, span-inside b i p)) q in omega (arith, w.0, w.1)) l
 
     -- nobody listens beside the part
+    within-hears : (i : ℕ) → Place b i → {k : ℕ} → Within b i r k → (l : List ℕ) → woken b x e k l ≡ woken b x e i l
+    within-hears i p (the-body c) l = sym (awake-record b i p l x e ∙ rw (ne_eqb (children_of (kind_at b i)) 2 (λ q. loop-alone (kind_at b i) c q), eq-eqb (kind_at b i) 14 c))
+    within-hears i p (the-left c h) l = sym (awake-record b i p l x e ∙ rw (eq-eqb (children_of (kind_at b i)) 2 c) (deaf-behind (second_at b i) (next_place b i p (omega arith)) (woken b x e (i + 1) l) h))
+    within-hears i p (the-right c h) l = sym (awake-record b i p l x e ∙ rw (eq-eqb (children_of (kind_at b i)) 2 c) (ap (woken b x e (second_at b i)) (deaf-before (i + 1) (down-place b i p (omega arith)) l (omega arith))))
+
     pub part-hears : (i : ℕ) → Place b i → {k : ℕ} → PartWith b i r k → (l : List ℕ) → woken b x e k l ≡ woken b x e i l
-    part-hears i p (the-body c) l = sym (awake-record b i p l x e ∙ rw (ne_eqb (children_of (kind_at b i)) 2 (λ q. loop-alone (kind_at b i) c q), eq-eqb (kind_at b i) 14 c))
-    part-hears i p (the-left c h) l = sym (awake-record b i p l x e ∙ rw (eq-eqb (children_of (kind_at b i)) 2 c) (deaf-behind (second_at b i) (next_place b i p (omega arith)) (woken b x e (i + 1) l) h))
-    part-hears i p (the-right c h) l = sym (awake-record b i p l x e ∙ rw (eq-eqb (children_of (kind_at b i)) 2 c) (ap (woken b x e (second_at b i)) (deaf-before (i + 1) (down-place b i p (omega arith)) l (omega arith))))
+    part-hears i p (inl q) l = rw q refl
+    part-hears i p (inr w) l = within-hears i p w l
 
 -- ---- the part
 
@@ -109,13 +113,13 @@ no-holder kind.Fin f g h p = (λ e. omega arith, λ e. omega arith)
 
 module _ (b : List ℕ) {r : Reach} where
   -- of a construct that is no loop and whose parts, if it has two, each leave out a place
-  pub no-part : (i : ℕ) → (kind_at b i ≡ 14 → ⊥) → (children_of (kind_at b i) ≡ 2 → (second_at b i < r.to) × (r.from < second_at b i)) → NoPartWith b i r
+  pub no-part : (i : ℕ) → (kind_at b i ≡ 14 → ⊥) → (children_of (kind_at b i) ≡ 2 → (second_at b i < r.to) × (r.from < second_at b i)) → NoneWithin b i r
   no-part i n h k (the-body c) = absurd (n c)
   no-part i n h k (the-left c g) = absurd (omega (arith, (h c).0))
   no-part i n h k (the-right c g) = absurd (omega (arith, (h c).1))
 
-  pub part-heard : (i : ℕ) → Place b i → {k : ℕ} → PartWith b i r k → HeardIn b r i → HeardIn b r k
-  part-heard i p w h x e hear l = part-hears b x e r hear i p w l ∙ h x e hear l
+  pub part-heard : (i : ℕ) → Place b i → {k : ℕ} → Within b i r k → HeardIn b r i → HeardIn b r k
+  part-heard i p w h x e hear l = part-hears b x e r hear i p (inr w) l ∙ h x e hear l
 
 -- ---- a place where nobody listens keeps its state
 

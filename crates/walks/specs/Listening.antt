@@ -1,5 +1,5 @@
 -- Where each event is awaited: a reach for each event of each source, and the parts of a construct that hold it.
-use Rattle.std.specs.Prelude.{◌≡◌, Bool, true, List, ℕ, zero, suc, ◌+◌, ◌≤◌, ◌<◌, min, max, ltb, slice_index_or, eqb, ◌&&◌, if◌then◌else◌}
+use Rattle.std.specs.Prelude.{◌≡◌, ◌⊎◌, Bool, true, List, ℕ, zero, suc, ◌+◌, ◌≤◌, ◌<◌, min, max, ltb, slice_index_or, eqb, ◌&&◌, if◌then◌else◌}
 use Rattle.rules.specs.Limits.{most_records}
 use Rattle.rules.specs.Tree.{eq_source}
 use Rattle.rules.specs.Table.{kind_at, name_at, second_at, records_of}
@@ -70,14 +70,18 @@ Heard b i l l' = (s : Source) (e : ℕ) → e < 64 → reach_of l' s e ≡ widen
 -- ---- parts
 
 -- the part of the construct at place i that has all places of the reach
-pub data PartWith (b : List ℕ) (i : ℕ) (r : Reach) : ℕ → Type 0 where
-  the-body : kind_at b i ≡ 14 → PartWith b i r (i + 1)
-  the-left : children_of (kind_at b i) ≡ 2 → r.to ≤ second_at b i → PartWith b i r (i + 1)
-  the-right : children_of (kind_at b i) ≡ 2 → second_at b i ≤ r.from → PartWith b i r (second_at b i)
+pub data Within (b : List ℕ) (i : ℕ) (r : Reach) : ℕ → Type 0 where
+  the-body : kind_at b i ≡ 14 → Within b i r (i + 1)
+  the-left : children_of (kind_at b i) ≡ 2 → r.to ≤ second_at b i → Within b i r (i + 1)
+  the-right : children_of (kind_at b i) ≡ 2 → second_at b i ≤ r.from → Within b i r (second_at b i)
+
+-- that, or the construct itself
+abbrev pub PartWith : List ℕ → ℕ → Reach → ℕ → Type 0
+PartWith b i r k = (k ≡ i) ⊎ Within b i r k
 
 -- no part has
-abbrev pub NoPartWith : List ℕ → ℕ → Reach → Type 0
-NoPartWith b i r = (k : ℕ) → PartWith b i r k → ⊥
+abbrev pub NoneWithin : List ℕ → ℕ → Reach → Type 0
+NoneWithin b i r = (k : ℕ) → Within b i r k → ⊥
 
 -- all that may hear in the program stands at place k and below
 abbrev pub HeardIn : List ℕ → Reach → ℕ → Type 0

@@ -1,7 +1,7 @@
 // A construct's part that has all places of a range.
 ghost use Rattle.std.specs.Prelude.{◌≡◌, ◌<◌, IfSome, IfNone};
 ghost use Rattle.rules.specs.Limits.{most_records};
-ghost use Rattle.walks.specs.Listening.{PartWith, NoPartWith, widened};
+ghost use Rattle.walks.specs.Listening.{Within, NoneWithin, widened};
 
 use table::{Construct, Kind};
 
@@ -29,8 +29,8 @@ impl Reach {
 pub fn part_with<'a>(at: Construct<'a>, reach: Reach) -> Option<Construct<'a>>
     ensures table { IfSome result (λ part. part.table.now ≡ at.entry.table.now) }
     ensures below { IfSome result (λ part. at.entry.place < part.place) }
-    ensures part { IfSome result (λ part. PartWith at.entry.table.now at.entry.place reach part.place) }
-    ensures none { IfNone result (NoPartWith at.entry.table.now at.entry.place reach) }
+    ensures part { IfSome result (λ part. Within at.entry.table.now at.entry.place reach part.place) }
+    ensures none { IfNone result (NoneWithin at.entry.table.now at.entry.place reach) }
 {
     match at.kind() {
         Kind::Loop => Some(at.first()),
