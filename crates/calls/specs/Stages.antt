@@ -1,5 +1,5 @@
 -- The stages that a call tests, and their verdict.
-use Rattle.std.specs.Prelude.{List, [], ◌∷◌, ◌++◌, ◌≡◌, ℕ, ◌<◌, ◌^◌, Bool, true, false, ℤ, pos, Option, None, Some, MatchOption, Result, MatchResult}
+use Rattle.std.specs.Prelude.{List, [], ◌∷◌, ◌++◌, ◌≡◌, ℕ, ◌<◌, ◌^◌, Bool, true, false, ℤ, pos, Option, None, Some, Result, MatchResult}
 use Rattle.rules.specs.Stages.{Stage, first_refusal, refusal}
 use Rattle.rules.specs.Check.{Verdict, verdict, announced, table_stages}
 use Rattle.rules.specs.Marks.{marks_stages}
@@ -33,10 +33,6 @@ standing_stages b m v = table_stages b ++ (marks_stages b m ++ (vars_stage v ∷
 -- passed, or refused by this stage at place 0
 abbrev pub Tested : Code.Stage → Bool → Result (Unit {0}) Refusal → Type 0
 Tested k passes r = MatchResult r (λ x. passes ≡ true) (λ q. (passes ≡ false) × (refusal_of q ≡ refusal (stage_number k) 0))
-
--- the first of the numbers below n that fails a test
-abbrev pub First : (ℕ → Bool) → ℕ → Option ℕ → Type 0
-First ok n r = MatchOption r ((k : ℕ) → k < n → ok k ≡ true) (λ i. (i < n) × (ok i ≡ false) × ((k : ℕ) → k < i → ok k ≡ true))
 
 -- a place that was found is small
 abbrev pub Low : Option ℕ → Type 0

@@ -1,6 +1,4 @@
-// A list of events. An event is laid out as a record of the table: its number at byte 0, its value at bytes 4 to 7.
-ghost use Rattle.std.specs.Prelude.{◌≡◌};
-ghost use Rattle.rules.specs.Table.{kind_at, number_at};
+// A list of events.
 ghost use Rattle.rules.specs.Lists.{list_call};
 ghost use Rattle.calls.specs.Answers.{Ran, lent};
 
@@ -9,17 +7,8 @@ use crate::hold::{finish, resting};
 use crate::stages::{has_room, run_stages};
 use engine::react;
 use rules::Limits;
-use table::{Construct, Refusal, Stage};
+use table::{Construct, Entry, Refusal, Stage};
 use walks::Listeners;
-
-// The event of a record, and its value.
-fn sent(record: &[u8; Limits::RECORD_BYTES]) -> (usize, i32)
-    ensures event { result.0 ≡ kind_at record.now 0 }
-    ensures value { result.1 ≡ number_at record.now 0 }
-{
-    let [event, _, _, _, b0, b1, b2, b3] = *record;
-    (usize::from(event), i32::from_le_bytes([b0, b1, b2, b3]))
-}
 
 // Each event is taken while the room has the announced outputs behind those made.
 pub fn run_list(
@@ -45,8 +34,9 @@ pub fn run_list(
             stopped = Some(Refusal::at(Stage::Stopped, place));
             break;
         }
-        let (event, value) = sent(record);
-        run.memory.vars[0] = value;
+        let sent = Entry::from(*record);
+        run.memory.vars[0] = sent.value;
+        let event = usize::from(sent.name);
         let round = react(program, event, announced.steps, &listeners, &mut run, out);
         emitted += round.emitted;
         highest = highest.max(round.highest);

@@ -6,8 +6,8 @@ ghost use Rattle.rules.specs.Check.{table_stages};
 ghost use Rattle.rules.specs.Marks.{marks_stages};
 ghost use Rattle.rules.specs.Lists.{event_right, list_fails};
 ghost use Rattle.acceptance.specs.Verdicts.{verdict_of};
-ghost use Rattle.table.specs.Found.{first_of};
-ghost use Rattle.calls.specs.Stages.{judged, start_stages, standing_stages, react_stages, run_stages, First, Low, Tested};
+ghost use Rattle.table.specs.Found.{first_of, First};
+ghost use Rattle.calls.specs.Stages.{judged, start_stages, standing_stages, react_stages, run_stages, Low, Tested};
 
 use acceptance::Announced;
 use rules::Limits;

@@ -3,5 +3,3 @@ pub mod Digits
 -- The lines of such numbers, and how long they are.
 pub mod Printing
 pub mod Lengths
--- Events and outputs in pieces of 8 bytes.
-pub mod Entries

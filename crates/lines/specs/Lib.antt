@@ -3,5 +3,3 @@ pub mod Lines
 pub mod Printed
 pub mod CaseSix
 pub mod Texts
--- What it reads of events and outputs.
-pub mod Entries

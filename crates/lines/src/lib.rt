@@ -1,8 +1,7 @@
 // What the runner prints, a type for each line, and the events and outputs that it reads.
 #![tactic(auto)]
 
-mod entry;
 mod lines;
 
-pub use entry::{Entry, entry_at};
 pub use lines::{CallLine, OutLine, RefusalLine};
+pub use table::{Entry, entry_at};

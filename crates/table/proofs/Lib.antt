@@ -6,3 +6,4 @@ pub mod Laid
 pub mod Passed
 pub mod Finding
 pub mod Spots
+pub mod Entries

@@ -5,3 +5,5 @@ pub mod Places
 pub mod Found
 pub mod Refusing
 pub mod Constructs
+-- Events and outputs, laid out as its records.
+pub mod Entries

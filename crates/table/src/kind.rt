@@ -1,6 +1,6 @@
 // The kinds of records, by name. Kinds that differ in a flag are one case with the flag, as in the rules.
 ghost use Rattle.std.specs.Prelude.{◌≡◌};
-ghost use Rattle.table.specs.Named.{ReadsKind, children};
+ghost use Rattle.table.specs.Named.{ReadsKind, kind_number, children};
 
 use memory::Act;
 
@@ -60,6 +60,30 @@ impl TryFrom<u8> for Kind {
             18 => Ok(Kind::Par(Par::Or)),
             19 => Ok(Kind::Fin),
             _ => Err(NoKind(number)),
+        }
+    }
+}
+
+// The number of a kind.
+impl From<Kind> for u8 {
+    ghost from_gives = { λ kind number. number ≡ kind_number kind };
+
+    fn from(kind: Kind) -> Self {
+        match kind {
+            Kind::Nothing => 0,
+            Kind::Act(act) => 1 + act as u8,
+            Kind::Await(Source::Input) => 8,
+            Kind::Await(Source::Internal) => 9,
+            Kind::Emit => 10,
+            Kind::Break => 11,
+            Kind::If => 12,
+            Kind::Sequence => 13,
+            Kind::Loop => 14,
+            Kind::Every(Source::Input) => 15,
+            Kind::Every(Source::Internal) => 16,
+            Kind::Par(Par::And) => 17,
+            Kind::Par(Par::Or) => 18,
+            Kind::Fin => 19,
         }
     }
 }

@@ -1,13 +1,14 @@
 -- The list of the rules for every input: what the stages refuse, or the list itself. It is taken event by event, and each turn keeps that what
 -- runs stands for what was taken.
-use Rattle.std.proofs.Common.{refl, arith, rules, ◌∙◌, ◌<◌, w32, to_z-of_z, length, ◌/◌}
+use Rattle.std.proofs.Common.{refl, ap, arith, rules, ◌∙◌, ◌<◌, w32, to_z-of_z, length, ◌/◌}
 use Rattle.std.proofs.lemmas.Result.{err_from_is_err_and}
 use Rattle.rules.specs.Calls.{none_taken}
 use Rattle.rules.specs.Lists.{list_call, sent_from, take_events}
 use Rattle.calls.specs.Answers.{lent}
 use Rattle.calls.specs.Stages.{run_stages}
 use Rattle.calls.proofs.Judging.{same-steps}
-use Rattle.calls.proofs.Passing.{event-of-record, value-of-record}
+use Rattle.table.specs.declared.entry.Entry.{Entry}
+use Rattle.table.proofs.Entries.{entry-of-record}
 use Rattle.calls.proofs.Passed.{passed-few, passed-spot, passed-steps}
 use Rattle.calls.proofs.Answering.{held_bytes, held-waits, marks-sized, tested-ran}
 use Rattle.calls.proofs.Reacting.{ready-few}
@@ -58,8 +59,9 @@ pub overflow_add-emitted : goal.overflow_add-emitted
 overflow_add-emitted c =
     let es = c.args.events.now in
     let inside : c.loop-place.place < length es / 8 = omega (arith, c.loop-place-test.true, c.as_chunks.ensures.front_len) in
-    let event = c.sent-event.ensures.event ∙ event-of-record es _ c.as_chunks.ensures.front c.loop-place.place _ inside in
-    let value = to_z-of_z {w = w32} (search rules) ∙ c.sent-event.ensures.value ∙ value-of-record es _ c.as_chunks.ensures.front c.loop-place.place _ inside in
+    let sent = c.from-sent.ensures ∙ entry-of-record es c.as_chunks.ensures.front inside _ in
+    let event = c.from-event.ensures ∙ ap (λ (e : Entry). e.name) sent in
+    let value = to_z-of_z {w = w32} (search rules) ∙ ap (λ (e : Entry). e.value) sent in
     let next = going_on c.args.table.now c.args.marks.now c.args.vars.now c.args.events.now c.args.out.now c.run_stages.ensures c.in_ok-announced.was c.loop-place.invariant.going c.has_room.ensures c.if-not-has_room.false inside event value c.react-round.ensures c.react-round.auto.out refl in
     omega (arith, going-few c.args.table.now c.args.marks.now c.args.vars.now c.args.events.now c.args.out.now c.run_stages.ensures c.in_ok-announced.was next)
 
@@ -67,8 +69,9 @@ pub loop-place-preserved : goal.loop-place-preserved
 loop-place-preserved c =
     let es = c.args.events.now in
     let inside : c.loop-place.place < length es / 8 = omega (arith, c.loop-place-test.true, c.as_chunks.ensures.front_len) in
-    let event = c.sent-event.ensures.event ∙ event-of-record es _ c.as_chunks.ensures.front c.loop-place.place _ inside in
-    let value = to_z-of_z {w = w32} (search rules) ∙ c.sent-event.ensures.value ∙ value-of-record es _ c.as_chunks.ensures.front c.loop-place.place _ inside in
+    let sent = c.from-sent.ensures ∙ entry-of-record es c.as_chunks.ensures.front inside _ in
+    let event = c.from-event.ensures ∙ ap (λ (e : Entry). e.name) sent in
+    let value = to_z-of_z {w = w32} (search rules) ∙ ap (λ (e : Entry). e.value) sent in
     record {
       going = going_on c.args.table.now c.args.marks.now c.args.vars.now c.args.events.now c.args.out.now c.run_stages.ensures c.in_ok-announced.was c.loop-place.invariant.going c.has_room.ensures c.if-not-has_room.false inside event value c.react-round.ensures c.react-round.auto.out c.max-highest.ensures;
       taken = omega (arith, c.loop-place.invariant.taken);

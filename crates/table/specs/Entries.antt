@@ -2,7 +2,7 @@
 use Rattle.std.specs.Prelude.{List, ℕ, ◌/◌, ltb, pos, length, if◌then◌else◌}
 use Rattle.rules.specs.Limits.{record_bytes}
 use Rattle.rules.specs.Table.{byte_at, number_at}
-use Rattle.lines.specs.declared.entry.Entry.{Entry}
+use Rattle.table.specs.declared.entry.Entry.{Entry}
 
 -- 8 bytes: name, three zeros, value
 abbrev pub entry_of : List ℕ → ℕ → Entry

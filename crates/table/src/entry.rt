@@ -1,6 +1,6 @@
-// The events of a list and the outputs of a call: 8 bytes each, name, three zeros, value.
+// An event of a list or an output of a call: laid out as a record of the table, with its name at byte 0 and its value at bytes 4 to 7.
 ghost use Rattle.std.specs.Prelude.{◌≡◌};
-ghost use Rattle.lines.specs.Entries.{entry_of, entry_at};
+ghost use Rattle.table.specs.Entries.{entry_of, entry_at};
 
 use rules::Limits;
 
