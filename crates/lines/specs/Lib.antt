@@ -3,3 +3,5 @@ pub mod Lines
 pub mod Printed
 pub mod CaseSix
 pub mod Texts
+-- What a function promises that writes one of these lines into a lent buffer.
+pub mod Writes

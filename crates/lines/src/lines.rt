@@ -26,7 +26,7 @@ pub struct RefusalLine {
     pub place: u32,
 }
 
-fn state(finished: bool) -> &'static str
+pub fn state(finished: bool) -> &'static str
     ensures { result.now ≡ state finished }
 {
     if finished { "finished" } else { "waiting" }

@@ -6,7 +6,8 @@ ghost use Rattle.lines.specs.Lines.{call_line, refusal_line};
 ghost use Rattle.lines.specs.Texts.{text_of_call, text_of_refusal};
 
 use calls::Done;
-use lines::{CallLine, RefusalLine};
+use lines::{CallLine, LINE_BYTES, OutLine, RefusalLine};
+use std::io;
 use table::Refusal;
 
 // (No `From`: the line is of crate lines, and a call's has three parts.)
@@ -31,4 +32,33 @@ pub fn of_refusal(refusal: Refusal) -> RefusalLine
         number: refusal.stage.number(),
         place: refusal.place,
     }
+}
+
+// Each line stands whole in a buffer before it is written: to fill it can't fail, only the write can.
+
+pub fn print_call(rt: &impl Print, line: CallLine) -> io::Result<()> {
+    let mut buffer = [0; LINE_BYTES];
+    let length = lines::call_line(
+        &mut buffer,
+        line.event,
+        line.value,
+        line.steps,
+        line.emitted,
+        line.highest,
+        line.outputs,
+        line.finished,
+    );
+    rt.write_all(&buffer[..length])
+}
+
+pub fn print_output(rt: &impl Print, line: OutLine) -> io::Result<()> {
+    let mut buffer = [0; LINE_BYTES];
+    let length = lines::out_line(&mut buffer, line.0.name, line.0.value);
+    rt.write_all(&buffer[..length])
+}
+
+pub fn print_refusal(rt: &impl Print, line: RefusalLine) -> io::Result<()> {
+    let mut buffer = [0; LINE_BYTES];
+    let length = lines::refusal_line(&mut buffer, line.number, line.place);
+    rt.write_all(&buffer[..length])
 }

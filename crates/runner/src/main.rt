@@ -56,7 +56,7 @@ fn main(rt: HostRuntime) -> io::Result<()> {
     let events = file::read(&rt, b"events.rec", &mut events);
     match print_run(&rt, table, events) {
         Ok(()) => Ok(()),
-        Err(Ended::Refused(refusal)) => rt.print(line::of_refusal(refusal)),
+        Err(Ended::Refused(refusal)) => line::print_refusal(&rt, line::of_refusal(refusal)),
         Err(Ended::Unwritten(error)) => Err(error),
     }
 }

@@ -84,10 +84,10 @@ impl<'a> Run<'a> {
 
     // The line of a call and those of its outputs.
     pub fn report(&self, rt: &impl Print, event: u32, value: i32, done: Done) -> io::Result<()> {
-        rt.print(line::of_call(event, value, done))?;
+        line::print_call(rt, line::of_call(event, value, done))?;
         let (records, _) = self.room.as_chunks::<{ Limits::RECORD_BYTES }>();
         for record in records.iter().take(done.outputs as usize) {
-            rt.print(OutLine(Entry::from(*record)))?;
+            line::print_output(rt, OutLine(Entry::from(*record)))?;
         }
         Ok(())
     }
