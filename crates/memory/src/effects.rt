@@ -5,7 +5,7 @@ ghost use Rattle.memory.specs.Arrays.{acts, kind_acts, variable, put_output, mak
 ghost use Rattle.memory.specs.Acts.{act_of, arrays_of, Ticks, Tests, Sets, counted};
 
 use crate::act::Act;
-use crate::number::{difference, is_less, quotient, sum};
+use crate::number::{bits_of, difference, is_less, quotient, sum};
 use rules::Limits;
 
 #[derive(Drop)]
@@ -40,7 +40,7 @@ fn put_output(n: u64, name: usize, value: i32, out: &mut [u8])
     let room = (out.len() / Limits::RECORD_BYTES) as u64;
     if n < room {
         let i = Limits::RECORD_BYTES * (n as usize);
-        let [b0, b1, b2, b3] = value.to_le_bytes();
+        let [b0, b1, b2, b3] = bits_of(value).to_le_bytes();
         let record = [(name % 256) as u8, 0, 0, 0, b0, b1, b2, b3];
         out[i..i + Limits::RECORD_BYTES].copy_from_slice(&record);
     }

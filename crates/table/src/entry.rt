@@ -2,6 +2,7 @@
 ghost use Rattle.std.specs.Prelude.{◌≡◌};
 ghost use Rattle.table.specs.Entries.{entry_of, entry_at};
 
+use memory::number_of;
 use rules::Limits;
 
 #[derive(Clone, Copy, Debug, PartialEq, Eq)]
@@ -17,7 +18,7 @@ impl From<[u8; Limits::RECORD_BYTES]> for Entry {
         let [name, _, _, _, b0, b1, b2, b3] = bytes;
         Entry {
             name,
-            value: i32::from_le_bytes([b0, b1, b2, b3]),
+            value: number_of(b0, b1, b2, b3),
         }
     }
 }

@@ -42,11 +42,15 @@ impl TryFrom<u8> for Kind {
     ghost try_from_gives = { ReadsKind };
 
     fn try_from(number: u8) -> Result<Self, NoKind> {
-        if let Ok(act) = Act::try_from(number) {
-            return Ok(Kind::Act(act));
-        }
         match number {
             0 => Ok(Kind::Nothing),
+            1 => Ok(Kind::Act(Act::Assign)),
+            2 => Ok(Kind::Act(Act::Increase)),
+            3 => Ok(Kind::Act(Act::Copy)),
+            4 => Ok(Kind::Act(Act::Subtract)),
+            5 => Ok(Kind::Act(Act::Compare)),
+            6 => Ok(Kind::Act(Act::Divide)),
+            7 => Ok(Kind::Act(Act::Output)),
             8 => Ok(Kind::Await(Source::Input)),
             9 => Ok(Kind::Await(Source::Internal)),
             10 => Ok(Kind::Emit),

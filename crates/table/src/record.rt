@@ -7,6 +7,7 @@ ghost use Rattle.table.specs.Named.{ReadsKind};
 ghost use Rattle.table.specs.Places.{bits_at};
 
 use crate::kind::{Kind, NoKind};
+use memory::signed;
 use rules::Limits;
 
 // Byte k of the record at place i.
@@ -18,7 +19,7 @@ fn byte_at(table: &[u8], i: usize, k: usize) -> u8
     table[Limits::RECORD_BYTES * i + k]
 }
 
-// The number of the kind, also one over 19: what docs/PROMISES.md names. Code reads the kind itself, by `read_kind` or `Construct::kind`.
+// The number of the kind, also one over 19. Code asks for the kind itself, by `read_kind` or `Construct::kind`.
 pub fn kind_at(table: &[u8], i: usize) -> usize
     requires { i < records_of table.now }
     ensures number { result ≡ kind_at table.now i }
@@ -32,7 +33,7 @@ pub fn read_kind(table: &[u8], i: usize) -> Result<Kind, NoKind>
     requires { i < records_of table.now }
     ensures { ReadsKind (kind_at table.now i) result }
 {
-    Kind::try_from(byte_at(table, i, 0))
+    Kind::try_from(kind_at(table, i) as u8)
 }
 
 pub fn name_at(table: &[u8], i: usize) -> usize
@@ -67,7 +68,7 @@ pub fn number_at(table: &[u8], i: usize) -> i32
     requires { i < records_of table.now }
     ensures { result ≡ number_at table.now i }
 {
-    bits_at(table, i).cast_signed()
+    signed(bits_at(table, i))
 }
 
 // The place of the second child, where the record at place i has a first.
