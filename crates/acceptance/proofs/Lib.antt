@@ -2,6 +2,8 @@
 pub mod Ends
 pub mod Visiting
 pub mod Firsts
+pub mod Rows
+pub mod Confined
 pub mod Counting
 pub mod Tallies
 pub mod Passing

@@ -1,11 +1,12 @@
 -- A walk from a construct: its own visit, then those of its children.
 -- Assumes nothing.
-use mathlib.Core.Path.{◌≡◌, refl, ◌∙◌}
+use mathlib.Core.Path.{◌≡◌, refl, sym, ap, ◌∙◌}
 use mathlib.Core.Bool.{false, ◌&&◌}
 use mathlib.Core.List.{List, [], ◌∷◌, ◌++◌}
 use Prim.Native.Nat.{ℕ, ◌+◌, ◌≤◌}
 use native.Mathlib.Omega.{arith}
 use lib.Dec.{eqb}
+use borrow.Author.Tests.{ne_eqb}
 use lib.ListN.{length}
 use Rattle.rules.specs.Tree.{head_of}
 use Rattle.rules.specs.Table.{kind_at, second_at, program_of, records_of}
@@ -32,6 +33,14 @@ walk-by b i p a = by_kind b i p (λ k t. walk a t ≡ walk_by k b a i) (refl als
 -- the law of the stages that walk
 pub walk_at : (b : List ℕ) (i : ℕ) → Place b i → (a : Around) → walk a (tree_of b i) ≡ visit_at b a i ∷ below_at (children_of (kind_at b i)) b (inner (kind_at b i) a) i
 walk_at b i p a = walk-by b i p a
+
+-- a construct of two children is no loop, no every and no fin
+pub inner-two : (k : ℕ) (a : Around) → 2 ≤ children_of k → a ≡ inner k a
+unfolding inner children_of
+inner-two k a h = sym (rw (ne_eqb k 14 (other 14 refl), ne_eqb k 15 (other 15 refl), ne_eqb k 16 (other 16 refl), ne_eqb k 19 (other 19 refl)))
+  where
+    other : (m : ℕ) → children_of m ≡ 1 → k ≡ m → ⊥
+    other m e q = omega (arith, ap children_of q)
 
 module _ (v : Visit) where
   pub walk-leaf : children_of (kind_at v.at.table.now v.at.place) ≡ 0 → walk_of v ≡ visit_of v ∷ []

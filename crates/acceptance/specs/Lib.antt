@@ -2,5 +2,6 @@
 pub mod Counts
 pub mod Firsts
 pub mod Records
+pub mod Rows
 pub mod Visits
 pub mod Verdicts

@@ -1,11 +1,13 @@
 // The announced numbers, from what a walk counts.
-ghost use Rattle.std.specs.Prelude.{◌≡◌, ◌≤◌};
+ghost use Rattle.std.specs.Prelude.{◌≡◌, ◌≤◌, ◌||◌, true};
 ghost use Rattle.rules.specs.Limits.{announce};
 ghost use Rattle.rules.specs.Check.{visits_of};
-ghost use Rattle.acceptance.specs.Visits.{visit_of, walk_of};
-ghost use Rattle.acceptance.specs.Counts.{with_visit, counted, tallied, announced_of};
+ghost use Rattle.acceptance.specs.Visits.{around_of, visit_of};
+ghost use Rattle.acceptance.specs.Counts.{with_visit, tallied, announced_of};
+ghost use Rattle.acceptance.specs.Rows.{Ends, Counts, given};
 
 use crate::Announced;
+use crate::row::Row;
 use crate::visit::Visit;
 use memory::Act;
 use rules::Limits;
@@ -21,50 +23,68 @@ pub struct Tally {
 }
 
 impl Tally {
-    // With a construct; a count stops at the largest number, to which no table comes.
-    fn with(self, visit: Visit<'_>) -> Tally
-        ensures { result ≡ with_visit (visit_of visit.entry) self }
+    // One construct more; a count stops at the largest number, to which no table comes.
+    fn add(&mut self, visit: Visit<'_>)
+        ensures { self.new ≡ with_visit (visit_of visit.entry) self.old }
     {
         match visit.kind {
-            Kind::Emit => Tally {
-                emits: self.emits.saturating_add(1),
-                ..self
-            },
-            Kind::Loop => Tally {
-                deepest: self.deepest.max(visit.around.loops + 1),
-                ..self
-            },
-            Kind::Act(Act::Output) if visit.around.in_every => Tally {
-                inside: self.inside.saturating_add(1),
-                ..self
-            },
-            Kind::Act(Act::Output) => Tally {
-                outside: self.outside.saturating_add(1),
-                ..self
-            },
-            _ => self,
+            Kind::Emit => self.emits = self.emits.saturating_add(1),
+            Kind::Loop => self.deepest = self.deepest.max(visit.around.loops + 1),
+            Kind::Act(Act::Output) if visit.around.in_every => {
+                self.inside = self.inside.saturating_add(1);
+            }
+            Kind::Act(Act::Output) => self.outside = self.outside.saturating_add(1),
+            _ => {}
         }
     }
 }
 
-// With a construct and all below it; none where one of them fails stage 4, 5, 6 or 7.
-#[tactic(auto, using(crate::proofs::Counting::counting))]
-fn count(visit: Visit<'_>, tally: Tally) -> Option<Tally>
-    ensures { result ≡ counted (walk_of visit.entry) tally }
+// Counts a row under an every or a fin, up to a construct that fails. None that passes has one child, so that its records are gone through one by one.
+fn count_plain(row: Row<'_>, tally: &mut Tally) -> bool
+    requires row { Ends row.table.now row.end row.place }
+    requires confined { (row.around.in_every || row.around.in_fin) ≡ true }
+    ensures { Counts (given result tally.new) row.entry.table.now (around_of row.entry.around) row.entry.end row.entry.place tally.old }
 {
-    if !visit.passes() {
-        return None;
+    let table = row.table;
+    let around = row.around;
+    for place in row.place..row.end {
+        let visit = Visit::new(Construct { table, place }, around);
+        if !visit.passes() {
+            return false;
+        }
+        tally.add(visit);
     }
-    let tally = tally.with(visit);
-    match visit.kind.children() {
-        0 => Some(tally),
-        1 => count(visit.first(), tally),
-        _ => {
-            let (left, right) = (visit.first(), visit.second());
-            let tally = count(left, tally)?;
-            count(right, tally)
+    true
+}
+
+// Counts all of a row and all below it, up to a construct that fails stage 4, 5, 6 or 7, where it answers no. What stands around a construct with no child or two
+// stands around its children too, so that a row is gone through place by place, and only below a construct with one child is a row of its own.
+fn count(row: Row<'_>, tally: &mut Tally) -> bool
+    requires { Ends row.table.now row.end row.place }
+    ensures { Counts (given result tally.new) row.entry.table.now (around_of row.entry.around) row.entry.end row.entry.place tally.old }
+{
+    if row.around.in_every || row.around.in_fin {
+        return count_plain(row, tally);
+    }
+    let table = row.table;
+    let around = row.around;
+    let mut place = row.place;
+    while place < row.end {
+        let visit = Visit::new(Construct { table, place }, around);
+        if !visit.passes() {
+            return false;
+        }
+        tally.add(visit);
+        if visit.kind.children() == 1 {
+            if !count(Row::below(visit), tally) {
+                return false;
+            }
+            place += visit.at.span();
+        } else {
+            place += 1;
         }
     }
+    true
 }
 
 // Of a whole program.
@@ -72,7 +92,12 @@ pub fn tally_of_program(program: Construct<'_>) -> Option<Tally>
     requires { program.place ≡ 0 }
     ensures { result ≡ tallied (visits_of program.entry.table.now) }
 {
-    count(Visit::of(program), Tally::default())
+    let mut tally = Tally::default();
+    if count(Row::of(program), &mut tally) {
+        Some(tally)
+    } else {
+        None
+    }
 }
 
 impl Tally {

@@ -11,6 +11,7 @@ mod counts;
 mod ending;
 mod range;
 mod records;
+mod row;
 mod visit;
 mod walks;
 

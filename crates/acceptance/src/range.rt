@@ -1,13 +1,9 @@
-// What a name or a number may be, by the kind of its record.
+// What a name or a number may be.
 ghost use Rattle.std.specs.Prelude.{◌≡◌, pos};
 ghost use Rattle.rules.specs.Table.{in_range};
-ghost use Rattle.table.specs.Kinds.{row_of};
-ghost use Rattle.table.specs.Named.{kind_number};
 ghost use Rattle.acceptance.specs.Records.{range_of};
 
-use memory::Act;
 use rules::Limits;
-use table::Kind;
 
 #[derive(Clone, Copy, Debug, PartialEq, Eq)]
 pub enum Range {
@@ -27,28 +23,5 @@ impl Range {
             Range::UpTo63 => value <= Limits::NAME,
             Range::OneTo63 => 1 <= value && value <= Limits::NAME,
         }
-    }
-}
-
-// Of the name and of the number.
-#[derive(Clone, Copy, Debug, PartialEq, Eq)]
-pub struct Ranges {
-    pub name: Range,
-    pub number: Range,
-}
-
-impl Ranges {
-    pub fn of(kind: Kind) -> Ranges
-        ensures name { range_of result.name ≡ (row_of (kind_number kind)).name }
-        ensures number { range_of result.number ≡ (row_of (kind_number kind)).number }
-    {
-        let (name, number) = match kind {
-            Kind::Act(Act::Assign | Act::Increase) => (Range::OneTo63, Range::Anything),
-            Kind::Act(_) => (Range::OneTo63, Range::UpTo63),
-            Kind::Await(_) | Kind::Emit | Kind::Every(_) => (Range::OneTo63, Range::Nought),
-            Kind::If => (Range::UpTo63, Range::Nought),
-            _ => (Range::Nought, Range::Nought),
-        };
-        Ranges { name, number }
     }
 }

@@ -59,7 +59,7 @@ pub struct Visit<'a> {
 impl<'a> Visit<'a> {
     ghost use Rattle.acceptance.specs.Visits.{visit_of, walk_of, passes, IsFirst, IsSecond};
 
-    fn new(at: Construct<'a>, around: Around) -> Visit<'a>
+    pub fn new(at: Construct<'a>, around: Around) -> Visit<'a>
         requires { around.loops ≤ at.place }
         ensures construct { result.at ≡ at.entry }
         ensures around { result.around ≡ around }
@@ -114,11 +114,17 @@ impl<'a> Visit<'a> {
         self.kind == Kind::Loop && may_end(self.at.first())
     }
 
-    // None of these.
+    // None of these, in one look at the kind.
     pub fn passes(self) -> bool
         ensures { result ≡ passes (visit_of self.entry) }
     {
-        !(self.not_plain() || self.loose_break() || self.deep_loop() || self.endless_loop())
+        let confined = self.around.in_every || self.around.in_fin;
+        match self.kind {
+            Kind::Nothing | Kind::Act(_) | Kind::If | Kind::Sequence => true,
+            Kind::Break => !confined && self.around.loops != 0,
+            Kind::Loop => !confined && !self.deep_loop() && !self.endless_loop(),
+            _ => !confined,
+        }
     }
 
     // The first child, and what stands around it.
