@@ -1,13 +1,11 @@
 -- Runs of bytes stored in a buffer, one after the other.
 -- Assumes nothing.
-use mathlib.Core.Path.{◌≡◌, refl, sym, ◌∙◌}
+use mathlib.Core.Path.{◌≡◌, ◌∙◌}
 use mathlib.Core.List.{List, [], ◌∷◌, ◌++◌}
-use Prim.Native.Nat.{ℕ, suc, ◌+◌, ◌≤◌}
+use Prim.Native.Nat.{ℕ, suc, ◌+◌, ◌≤◌, ◌<◌}
 use native.Mathlib.Omega.{arith}
-use lib.ListN.{length, set}
-use lib.Seq.{sets, sets-eq, take-length}
-use borrow.Rule.Slice.PartMut.{put_mid}
-use Rattle.std.proofs.lemmas.Slice.{put_mid-paste}
+use lib.ListN.{length, get_or, take, set}
+use lib.Seq.{sets, sets-eq, take-suc, length-take-le, take-length}
 use Rattle.rules.specs.Calls.{onto}
 
 -- one run, and the next behind it
@@ -19,9 +17,15 @@ stored-after l i (v ∷ vs) ws {n} e = stored-after (set l i v) (suc i) vs ws (o
 pub stored-front : (l vs : List ℕ) {n : ℕ} → n ≡ 0 → length vs ≤ length l → sets l n vs ≡ onto vs l
 stored-front l vs e h = let f : 0 + length vs ≡ length vs = omega arith in rw (e, sets-eq vs l 0 (omega arith), f)
 
--- a part of a buffer that a run of bytes was copied over
-pub stored-part : (l vs : List ℕ) (i k : ℕ) {ws : List ℕ} → ws ≡ vs → k ≡ length vs → i + length vs ≤ length l → put_mid i k l ws ≡ sets l i vs
-stored-part l vs i k {ws} e q h = put_mid-paste i k l ws vs (length vs) e (sym q) refl ∙ (rw (take-length vs) (sym (sets-eq vs l i h)))
+-- one byte more of a copy
+pub copied-more : (l s : List ℕ) (to j : ℕ) {out : List ℕ} → out ≡ sets l to (take j s) → j < length s → set out (to + j) (get_or s j 0) ≡ sets l to (take (j + 1) s)
+copied-more l s to j e k =
+    let n : j + 1 ≡ suc j = omega arith in
+    rw (e, n, take-suc s j 0 k)
+    (stored-after l to (take j s) (get_or s j 0 ∷ []) (omega (arith, length-take-le j s (omega arith))))
+
+pub copied-all : (l s : List ℕ) (to j : ℕ) {out : List ℕ} → out ≡ sets l to (take j s) → j ≡ length s → out ≡ sets l to s
+copied-all l s to j e h = e ∙ rw (h, take-length s)
 
 -- a number and a numeral, one by one
 pub record Sums (n : ℕ) : Type 0 where
