@@ -1,32 +1,26 @@
 // The states and variables of a running program: loaded from what was lent, and stored again.
-ghost use Rattle.std.specs.Prelude.{◌≡◌, ◌≤◌, length, take};
+ghost use Rattle.std.specs.Prelude.{◌≡◌, ◌≤◌, length, replicate, take};
 ghost use Rattle.rules.specs.Limits.{most_records, variables};
 ghost use Rattle.rules.specs.Marks.{all_zero};
 ghost use Rattle.calls.specs.Holding.{Bytes, Resting, Stored};
 
 use crate::Done;
-use memory::Memory;
 use rules::Limits;
 use walks::Running;
 
-// A program at rest: its states are the marks, and idle behind them.
-pub fn resting(marks: &[u8], vars: &[i32]) -> Running
+// A program at rest, where nothing ran yet: its states are the marks, and idle behind them. (In place: what a function hands out is copied.)
+pub fn load(run: &mut Running, marks: &[u8], vars: &[i32])
+    requires idle { run.old.states ≡ replicate most_records 0 }
+    requires no_steps { run.old.memory.steps ≡ 0 }
+    requires no_outputs { run.old.memory.outputs ≡ 0 }
     requires marks_len_bound { length marks.now ≤ most_records }
     requires vars_len { length vars.now ≡ variables }
-    ensures { Resting marks.now vars.now result }
+    ensures { Resting marks.now vars.now run.new }
 {
-    let mut states = [0; Limits::RECORDS];
     for (place, mark) in marks.iter().enumerate() {
-        states[place] = u32::from(*mark);
+        run.states[place] = u32::from(*mark);
     }
-    let mut held = [0; Limits::VARIABLES];
-    held.copy_from_slice(vars);
-    let memory = Memory {
-        vars: held,
-        steps: 0,
-        outputs: 0,
-    };
-    Running { states, memory }
+    run.memory.vars.copy_from_slice(vars);
 }
 
 // The states at rest are the marks.

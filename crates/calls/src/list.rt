@@ -3,12 +3,12 @@ ghost use Rattle.rules.specs.Lists.{list_call};
 ghost use Rattle.calls.specs.Answers.{Ran, lent};
 
 use crate::Listed;
-use crate::hold::{finish, resting};
+use crate::hold::{finish, load};
 use crate::stages::{has_room, run_stages};
 use engine::react;
 use rules::Limits;
 use table::{Construct, Entry, Refusal, Stage};
-use walks::Listeners;
+use walks::{Listeners, Running};
 
 // Each event is taken while the room has the announced outputs behind those made.
 pub fn run_list(
@@ -22,8 +22,10 @@ pub fn run_list(
 {
     let announced = run_stages(table, marks, vars, events)?;
     let program = Construct { table, place: 0 };
-    let listeners = Listeners::of_program(table);
-    let mut run = resting(marks, vars);
+    let mut listeners = Listeners::NOBODY;
+    listeners.listen(table);
+    let mut run = Running::IDLING;
+    load(&mut run, marks, vars);
     let mut emitted: u64 = 0;
     let mut highest: u32 = 0;
     let mut taken: u64 = 0;

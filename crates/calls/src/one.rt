@@ -3,10 +3,10 @@ ghost use Rattle.rules.specs.Calls.{start_call, react_call};
 ghost use Rattle.calls.specs.Answers.{Uncounted, lent, sent_of};
 
 use crate::Done;
-use crate::hold::{finish, resting};
+use crate::hold::{finish, load};
 use crate::stages::{react_stages, start_stages};
 use table::{Construct, Refusal};
-use walks::Listeners;
+use walks::{Listeners, Running};
 
 pub fn start(
     table: &[u8],
@@ -18,9 +18,11 @@ pub fn start(
 {
     let announced = start_stages(table, marks, vars, out)?;
     let program = Construct { table, place: 0 };
-    let listeners = Listeners::of_program(table);
+    let mut listeners = Listeners::NOBODY;
+    listeners.listen(table);
     // A start does not look at the marks, and its event has the value 0.
-    let mut run = resting(&[], vars);
+    let mut run = Running::IDLING;
+    load(&mut run, &[], vars);
     run.memory.vars[0] = 0;
     let round = engine::begin(program, announced.steps, &listeners, &mut run, out);
     Ok(finish(round.emitted, round.highest, &run, marks, vars))
@@ -38,8 +40,10 @@ pub fn react(
 {
     let announced = react_stages(table, marks, vars, event, out)?;
     let program = Construct { table, place: 0 };
-    let listeners = Listeners::of_program(table);
-    let mut run = resting(marks, vars);
+    let mut listeners = Listeners::NOBODY;
+    listeners.listen(table);
+    let mut run = Running::IDLING;
+    load(&mut run, marks, vars);
     run.memory.vars[0] = value;
     let round = engine::react(
         program,

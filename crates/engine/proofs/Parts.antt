@@ -15,8 +15,9 @@ use borrow.Author.Tests.{eqb-true, eqb-false, lt-ltb, le-ltb, ltb-true, ltb-fals
 use Rattle.rules.specs.Tree.{Tree, Par, by_par, and, or, ifvar, seq, par}
 use Rattle.rules.specs.Table.{kind_at, name_at, span_at, second_at, records_of}
 use Rattle.theory.specs.Logic.{◌also◌}
-use Rattle.theory.specs.State.{still_at, still}
+use Rattle.theory.specs.State.{idle, walk, resume, still_at, still}
 use Rattle.theory.specs.Frame.{Blank}
+use Rattle.theory.specs.Resume.{idle-resume}
 use Rattle.theory.specs.Still.{all-still}
 use Rattle.theory.specs.Part.{Only, loop-body, left-of-if, right-of-if, left-of-seq, right-of-seq, left-of-par, right-of-par}
 use Rattle.table.specs.Kinds.{children_of}
@@ -25,9 +26,11 @@ use Rattle.table.specs.declared.kind.Par as code
 use Rattle.table.specs.declared.kind.Kind.{Kind}
 use Rattle.table.specs.declared.kind.Kind.TheVariants as kind
 use Rattle.table.specs.Places.{Place, tree_of}
-use Rattle.table.proofs.Places.{children-from, root-span, span_pos, down-place, next_place}
+use Rattle.table.proofs.Places.{children-from, root-span, span-for, span_pos, down-place, next_place}
 use Rattle.table.proofs.Trees.{by_kind, tree-kind, tree-span, span-inside}
 use Rattle.table.proofs.Laid.{place_at, laid-at}
+use Rattle.memory.specs.Arrays.{Arrays}
+use Rattle.walks.specs.Walks.{array_ops}
 use Rattle.walks.specs.declared.part.Reach.{Reach}
 use Rattle.walks.specs.Listening.{Within, the-body, the-left, the-right}
 use Rattle.engine.specs.Parts.{idling, right_free, Runs, Step, Way, Path}
@@ -62,7 +65,7 @@ idle-at l a b e k h g = go (eqb (get_or l k 0) 0) refl
         beyond false q = get_or-eq_default l 0 (ltb-false k (length l) q)
 
 -- from place a on, and before b, all states rest at this level
-record Rest (n : ℕ) (l : List ℕ) (a b : ℕ) : Type 0 where
+pub record Rest (n : ℕ) (l : List ℕ) (a b : ℕ) : Type 0 where
   still-at : (k : ℕ) → a ≤ k → k < b → still_at n (get_or l k 0) ≡ true
 
 -- ---- constructs with two parts
@@ -129,11 +132,22 @@ right-sides b i (the-left c g) n = absurd (n refl)
 right-sides b i (the-right c g) n = omega arith
 
 module _ (b l : List ℕ) where
-  rests-still : (n i : ℕ) → Place b i → Rest n l i (i + span_at b i) → still n (tree_of b i) l ≡ true
+  pub rests-still : (n i : ℕ) → Place b i → Rest n l i (i + span_at b i) → still n (tree_of b i) l ≡ true
   rests-still n i p f = all-still n (tree_of b i) l (laid-at b i p) (λ j h. f.still-at j (omega (arith, h.above, place_at b i p)) (omega (arith, h.below, place_at b i p, tree-span b i p)))
 
-  idle-blank : (i j : ℕ) → Place b i → j ≡ i + span_at b i → idling l i j ≡ true → Blank l (tree_of b i)
+  pub idle-blank : (i j : ℕ) → Place b i → j ≡ i + span_at b i → idling l i j ≡ true → Blank l (tree_of b i)
   idle-blank i e p q f = record { zero-at = λ j h. idle-at l i e f j (omega (arith, h.above, place_at b i p)) (omega (arith, h.below, place_at b i p, tree-span b i p)) }
+
+  -- a construct where nothing lives is idle
+  pub idle-walk : (i : ℕ) → Place b i → idling l i (i + span_at b i) ≡ true → (n : ℕ) (m : Arrays) → resume array_ops n (tree_of b i) l m ≡ walk idle l m
+  idle-walk i p f n m = idle-resume array_ops n (tree_of b i) l m (laid-at b i p) (idle-blank i (i + span_at b i) p refl f)
+
+  -- and so is a record without children whose state is idle
+  pub idle-leaf : (i : ℕ) → Place b i → children_of (kind_at b i) ≡ 0 → get_or l i 0 ≡ 0 → (n : ℕ) (m : Arrays) → resume array_ops n (tree_of b i) l m ≡ walk idle l m
+  idle-leaf i p c e n m = idle-resume array_ops n (tree_of b i) l m (laid-at b i p) record { zero-at = λ j h. let o : j ≡ i = omega (arith, h.above, h.below, place_at b i p, tree-span b i p, one-span) in rw o e }
+    where
+      one-span : span_at b i ≡ 1
+      one-span = rw c at (span-for b i p)
 
   module _ (reach : Reach) (i : ℕ) (p : Place b i) (above : i < reach.from) where
     module _ (n : ℕ) (r : Runs b n l reach) where

@@ -1,14 +1,23 @@
 // The way down from the root to the smallest construct that holds all that runs.
-ghost use Rattle.std.specs.Prelude.{◌≡◌, ◌≤◌, ◌<◌, IfSome};
-ghost use Rattle.rules.specs.Table.{kind_at};
+ghost use Rattle.std.specs.Prelude.{◌≡◌, ◌+◌, ◌≤◌, ◌<◌, IfSome, get_or};
+ghost use Rattle.rules.specs.Table.{kind_at, span_at};
 ghost use Rattle.table.specs.Kinds.{children_of};
-ghost use Rattle.engine.specs.Parts.{right_free, Step, Way};
+ghost use Rattle.engine.specs.Parts.{idling, right_free, Step, Way};
 
 use crate::path::Path;
 use rules::Limits;
 use table::{Construct, Kind};
 use walks::part::part_with;
 use walks::{Reach, Running};
+
+// Does nothing live at the construct and below?
+pub fn all_idle(at: Construct<'_>, states: &[u32; Limits::RECORDS]) -> bool
+    ensures { result ≡ idling states.now at.entry.place (at.entry.place + span_at at.entry.table.now at.entry.place) }
+{
+    states[at.place..at.place + at.span()]
+        .iter()
+        .all(|state| *state == Running::IDLE)
+}
 
 // May the right of the construct run alone?
 #[tactic(auto, unfolding(crate::specs::Parts::right_free))]
@@ -42,21 +51,20 @@ fn part_of<'a>(
     None
 }
 
-// How the part that runs is come to.
-pub fn down<'a>(program: Construct<'a>, reach: Reach, states: &[u32; Limits::RECORDS]) -> Path<'a>
-    requires root { program.place ≡ 0 }
-    ensures table { result.table.now ≡ program.entry.table.now }
-    ensures way { Way program.entry.table.now states.now reach result.places result.steps }
+// How the part that runs is come to: the path leads on to it, from the root. (It is lent, since it is too long to be handed out.)
+pub fn down(path: &mut Path<'_>, reach: Reach, states: &[u32; Limits::RECORDS])
+    requires steps { path.old.steps ≡ 0 }
+    requires root { get_or path.old.places 0 0 ≡ 0 }
+    ensures table { path.new.table.now ≡ path.old.table.now }
+    ensures way { Way path.old.table.now states.now reach path.new.places path.new.steps }
 {
-    let mut path = Path::new(program);
-    let mut at = program;
+    let mut at = path.end();
     // From part to part: nothing is counted here.
     while at.place < reach.from {
         let Some(part) = part_of(at, reach, states) else {
-            return path;
+            return;
         };
         path.push(part);
         at = part;
     }
-    path
 }

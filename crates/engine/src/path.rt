@@ -16,6 +16,7 @@ pub struct Path<'a> {
 
 impl<'a> Path<'a> {
     // No step yet, from this construct on.
+    #[inline(always)]
     pub fn new(top: Construct<'a>) -> Path<'a>
         ensures table { result.table.now ≡ top.entry.table.now }
         ensures steps { result.steps ≡ 0 }

@@ -11,6 +11,7 @@ ghost use Rattle.engine.specs.Running.{RightAlone};
 
 use crate::fork::Fork;
 use crate::held::resume_held;
+use crate::part::all_idle;
 use crate::waiting::{resume_await, resume_emit, resume_every, resume_fin};
 use memory::Memory;
 use table::{Construct, Kind, Par};
@@ -43,11 +44,11 @@ pub fn resume(at: Construct<'_>, n: u32, run: &mut Running, out: &mut [u8]) -> H
         Kind::Every(_) => resume_every(at, run, out),
         Kind::Fin => resume_fin(at.place, &run.states),
         Kind::If => {
-            let how = resume(at.first(), n, run, out);
+            let how = resume_part(at.first(), n, run, out);
             if_goes_on(at.second(), how, n, run, out)
         }
         Kind::Sequence => {
-            let how = resume(at.first(), n, run, out);
+            let how = resume_part(at.first(), n, run, out);
             seq_goes_on(at.second(), how, n, run, out)
         }
         Kind::Loop => {
@@ -60,6 +61,17 @@ pub fn resume(at: Construct<'_>, n: u32, run: &mut Running, out: &mut [u8]) -> H
             fork_goes_on(fork, how, n, run, out)
         }
     }
+}
+
+// The left of an if or a sequence: an idle one without children takes no walk.
+#[cycle(resume)]
+fn resume_part(at: Construct<'_>, n: u32, run: &mut Running, out: &mut [u8]) -> How
+    ensures { left result run.new out.new ≡ resume array_ops n (tree at.entry) run.old.states (arrays_of run.old.memory out.old) }
+{
+    if at.kind().children() == 0 && run.states[at.place] == Running::IDLE {
+        return How::Idle;
+    }
+    resume(at, n, run, out)
 }
 
 // After the left of an if.
@@ -123,6 +135,8 @@ pub fn fork_goes_on(fork: Fork<'_>, how: How, n: u32, run: &mut Running, out: &m
     match how {
         How::Idle => resume(second, n, run, out),
         How::Ended => match fork.par {
+            // Where nothing lives in the right, it takes no walk.
+            Par::And if all_idle(second, &run.states) => how,
             Par::And => {
                 let right = resume(second, n, run, out);
                 right_alone(right, &mut run.memory)

@@ -12,6 +12,7 @@ ghost use Rattle.engine.specs.Running.{most_rounds, event_number, Named, heard_i
 use crate::Rounded;
 use crate::climb::climb;
 use crate::part::down;
+use crate::path::Path;
 use crate::rest::{blocked, running};
 use crate::resume::resume;
 use table::{Construct, Source};
@@ -56,7 +57,8 @@ fn run_part(
         return None;
     }
     let n = turn_of(level);
-    let path = down(program, reach, &run.states);
+    let mut path = Path::new(program);
+    down(&mut path, reach, &run.states);
     let part = path.end();
     if blocked(part, n, &run.states) {
         return None;

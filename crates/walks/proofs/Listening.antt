@@ -21,15 +21,18 @@ use Rattle.table.proofs.Trees.{span-inside}
 use Rattle.walks.specs.Walks.{hears}
 use Rattle.walks.specs.declared.listeners.Listeners.{Listeners}
 use Rattle.walks.specs.declared.part.Reach.{Reach}
-use Rattle.walks.specs.Listening.{Hear, nowhere, anywhere, widened_if, heard, reach_of, Tight, Listens, Within, NoneWithin, the-body, the-left, the-right, HeardIn, PartWith}
+use Rattle.walks.specs.Listening.{Hear, nowhere, anywhere, widened_if, heard, reach_of, Tight, Listens, Within, NoneWithin, the-body, the-left, the-right, HeardIn, PartWith, Nobody, HeardAmong}
 use Rattle.walks.proofs.Waking.{act-most, woken, woken_at, awake-record, woken-along}
 
 -- ---- every listener counts
 
-pub heard-none : (b : List ℕ) (x : Source) (e : ℕ) → e < 64 → reach_of record { input = replicate 64 nowhere; internal = replicate 64 nowhere } x e ≡ heard b x e 0
+pub nobody-there : Nobody record { input = replicate 64 nowhere; internal = replicate 64 nowhere }
+nobody-there Input e h = rw (lt-ltb e 64 h) (get_or-replicate 64 e nowhere anywhere h)
+nobody-there Internal e h = rw (lt-ltb e 64 h) (get_or-replicate 64 e nowhere anywhere h)
+
+pub heard-none : (b : List ℕ) (l : Listeners) → Nobody l → HeardAmong b 0 l
 unfolding heard
-heard-none b Input e h = rw (lt-ltb e 64 h) (get_or-replicate 64 e nowhere anywhere h)
-heard-none b Internal e h = rw (lt-ltb e 64 h) (get_or-replicate 64 e nowhere anywhere h)
+heard-none b l n = n
 
 module _ (b : List ℕ) (x : Source) (e : ℕ) where
   pub heard-next : (n : ℕ) → heard b x e (n + 1) ≡ widened_if (hears (kind_at b n) (name_at b n) x e) n (heard b x e n)
@@ -61,7 +64,7 @@ pub not_so : (y : Bool) → (y ≡ true → ⊥) → y ≡ false
 not_so true h = absurd (h refl)
 not_so false h = refl
 
-loop-alone : (k : ℕ) → k ≡ 14 → children_of k ≡ 2 → ⊥
+pub loop-alone : (k : ℕ) → k ≡ 14 → children_of k ≡ 2 → ⊥
 unfolding children_of
 loop-alone k e h = omega (arith, rw e at h)
 

@@ -46,6 +46,10 @@ reach_of l s e = if ltb e 64 then slice_index_or (row_of l s) e anywhere else an
 abbrev pub HeardAmong : List ℕ → ℕ → Listeners → Type 0
 HeardAmong b n l = (s : Source) (e : ℕ) → e < 64 → reach_of l s e ≡ heard b s e n
 
+-- no listener is counted
+abbrev pub Nobody : Listeners → Type 0
+Nobody l = (s : Source) (e : ℕ) → e < 64 → reach_of l s e ≡ nowhere
+
 -- every listener of every event is counted
 pub record Listens (b : List ℕ) (l : Listeners) : Type 0 where
   pub counted : (s : Source) (e : ℕ) → Hear b s e (reach_of l s e)

@@ -2,7 +2,7 @@
 ghost use Rattle.std.specs.Prelude.{◌≡◌, ◌≤◌, ◌<◌};
 ghost use Rattle.rules.specs.Limits.{most_records};
 ghost use Rattle.rules.specs.Table.{records_of};
-ghost use Rattle.walks.specs.Listening.{Listens, Tight, reach_of, Noted, Heard};
+ghost use Rattle.walks.specs.Listening.{Listens, Nobody, Tight, reach_of, Noted, Heard};
 
 use crate::part::Reach;
 use rules::Limits;
@@ -31,19 +31,32 @@ impl Listeners {
         to: Limits::RECORDS,
     };
 
-    // All listeners of the program count.
+    // Nobody listens.
+    pub const NOBODY: Listeners = Listeners {
+        input: [Self::NOWHERE; EVENTS],
+        internal: [Self::NOWHERE; EVENTS],
+    };
+
+    // All listeners of the program count, where nobody did. (In place: what a function hands out is copied, and this is 2,048 bytes.)
+    pub fn listen(&mut self, table: &[u8])
+        requires small { records_of table.now ≤ most_records }
+        requires nobody { Nobody self.old }
+        ensures listens { Listens table.now self.new }
+        ensures tight { Tight table.now self.new }
+    {
+        for i in 0..table.len() / Limits::RECORD_BYTES {
+            self.hear(table, i);
+        }
+    }
+
+    // The same, as a value.
     pub fn of_program(table: &[u8]) -> Listeners
         requires { records_of table.now ≤ most_records }
         ensures listens { Listens table.now result }
         ensures tight { Tight table.now result }
     {
-        let mut listeners = Listeners {
-            input: [Self::NOWHERE; EVENTS],
-            internal: [Self::NOWHERE; EVENTS],
-        };
-        for i in 0..table.len() / Limits::RECORD_BYTES {
-            listeners.hear(table, i);
-        }
+        let mut listeners = Self::NOBODY;
+        listeners.listen(table);
         listeners
     }
 

@@ -11,6 +11,16 @@ pub struct Running {
 }
 
 impl Running {
+    // Nothing lives, all variables are 0, and nothing is counted.
+    pub const IDLING: Running = Running {
+        states: [Self::IDLE; Limits::RECORDS],
+        memory: Memory {
+            vars: [0; Limits::VARIABLES],
+            steps: 0,
+            outputs: 0,
+        },
+    };
+
     // The state of a record where nothing lives.
     pub const IDLE: u32 = 0;
 

@@ -14,25 +14,26 @@ use table::{Construct, Kind};
 pub fn settle(at: Construct<'_>, memory: &mut Memory, out: &mut [u8])
     ensures { arrays_of memory.new out.new ≡ settle array_ops (tree at.entry) (arrays_of memory.old out.old) }
 {
-    match at.kind() {
-        Kind::Act(act) => {
-            memory.perform(act, at.name(), at.number(), out);
-            memory.tick();
-        }
-        Kind::If => {
-            let holds = memory.is_nonzero(at.name());
-            memory.tick();
-            if holds {
-                settle(at.first(), memory, out);
-            } else {
-                settle(at.second(), memory, out);
+    let mut last = at;
+    // From each construct to its last part: nothing is counted here.
+    loop {
+        last = match last.kind() {
+            Kind::Act(act) => {
+                memory.perform(act, last.name(), last.number(), out);
+                memory.tick();
+                return;
             }
-        }
-        Kind::Sequence => {
-            settle(at.first(), memory, out);
-            memory.tick();
-            settle(at.second(), memory, out);
-        }
-        _ => {}
+            Kind::If => {
+                let holds = memory.is_nonzero(last.name());
+                memory.tick();
+                if holds { last.first() } else { last.second() }
+            }
+            Kind::Sequence => {
+                settle(last.first(), memory, out);
+                memory.tick();
+                last.second()
+            }
+            _ => return,
+        };
     }
 }

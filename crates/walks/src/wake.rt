@@ -17,18 +17,39 @@ use table::{Construct, Kind, Source};
 fn awake(at: Construct<'_>, source: Source, event: usize, states: &mut [u32; Limits::RECORDS])
     ensures { states.new ≡ awake (wakes (event_from source event)) (tree at.entry) states.old }
 {
-    match at.kind() {
-        Kind::If | Kind::Sequence | Kind::Par(_) => {
-            awake(at.first(), source, event, states);
-            awake(at.second(), source, event, states);
-        }
-        Kind::Loop => awake(at.first(), source, event, states),
-        Kind::Await(awaited) | Kind::Every(awaited) => {
-            if awaited == source && at.name() == event && states[at.place] == Running::WAITING {
-                states[at.place] = Running::WOKEN;
+    let mut last = at;
+    // From each construct to its last part: nothing is counted here.
+    loop {
+        last = match last.kind() {
+            Kind::If | Kind::Sequence | Kind::Par(_) => {
+                awake_part(last.first(), source, event, states);
+                last.second()
             }
-        }
-        _ => {}
+            Kind::Loop => last.first(),
+            Kind::Await(awaited) | Kind::Every(awaited) => {
+                if awaited == source
+                    && last.name() == event
+                    && states[last.place] == Running::WAITING
+                {
+                    states[last.place] = Running::WOKEN;
+                }
+                return;
+            }
+            _ => return,
+        };
+    }
+}
+
+// The same of a part: a record that waits for no event now takes no walk.
+#[cycle(awake)]
+#[tactic(auto, using(crate::proofs::Nodes::awake_node), unfolding(theory::specs::State::awake))]
+fn awake_part(at: Construct<'_>, source: Source, event: usize, states: &mut [u32; Limits::RECORDS])
+    ensures { states.new ≡ awake (wakes (event_from source event)) (tree at.entry) states.old }
+{
+    match at.kind() {
+        Kind::Nothing | Kind::Act(_) | Kind::Emit | Kind::Break => {}
+        Kind::Await(_) if states[at.place] != Running::WAITING => {}
+        _ => awake(at, source, event, states),
     }
 }
 

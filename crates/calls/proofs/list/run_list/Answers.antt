@@ -13,6 +13,7 @@ use Rattle.calls.proofs.Passed.{passed-few, passed-spot, passed-steps}
 use Rattle.calls.proofs.Answering.{held_bytes, held-waits, marks-sized, tested-ran}
 use Rattle.calls.proofs.Reacting.{ready-few}
 use Rattle.calls.proofs.Listing.{early, few-events, going-few, going-none, going_on, list-over, list-short, made-fits, run-ready}
+use Rattle.walks.proofs.Listening.{nobody-there}
 use Rattle.calls.proofs.list.run_list.Goals as goal
 use Rattle.calls.proofs.list.run_list.Goals.{else-loop-place-test, then-loop-place-test+then-not-has_room}
 
@@ -26,17 +27,20 @@ returns-in_err-announced c =
     let p = err_from_is_err_and c.from_residual.result c.from_residual.ensures.1 in
     rw (p.1, p.2) (tested-ran b (run_stages b c.args.marks.now c.args.vars.now es) all run c.run_stages.ensures c.in_err-announced.was refl (early b c.args.marks.now c.args.vars.now es))
 
-pub of_program-listeners-requires : goal.of_program-listeners-requires
-of_program-listeners-requires c = passed-few c.args.table.now (run-ready c.args.table.now c.args.marks.now c.args.vars.now c.args.events.now c.args.out.now c.run_stages.ensures c.in_ok-announced.was).table
+pub listen-requires-clause-nobody : goal.listen-requires-clause-nobody
+listen-requires-clause-nobody c = nobody-there
 
-pub resting-run-requires-clause-marks_len_bound : goal.resting-run-requires-clause-marks_len_bound
-resting-run-requires-clause-marks_len_bound c = ready-few (run-ready c.args.table.now c.args.marks.now c.args.vars.now c.args.events.now c.args.out.now c.run_stages.ensures c.in_ok-announced.was)
+pub listen-requires-clause-small : goal.listen-requires-clause-small
+listen-requires-clause-small c = passed-few c.args.table.now (run-ready c.args.table.now c.args.marks.now c.args.vars.now c.args.events.now c.args.out.now c.run_stages.ensures c.in_ok-announced.was).table
 
-pub resting-run-requires-clause-vars_len : goal.resting-run-requires-clause-vars_len
-resting-run-requires-clause-vars_len c = (run-ready c.args.table.now c.args.marks.now c.args.vars.now c.args.events.now c.args.out.now c.run_stages.ensures c.in_ok-announced.was).vars
+pub load-requires-clause-marks_len_bound : goal.load-requires-clause-marks_len_bound
+load-requires-clause-marks_len_bound c = ready-few (run-ready c.args.table.now c.args.marks.now c.args.vars.now c.args.events.now c.args.out.now c.run_stages.ensures c.in_ok-announced.was)
+
+pub load-requires-clause-vars_len : goal.load-requires-clause-vars_len
+load-requires-clause-vars_len c = (run-ready c.args.table.now c.args.marks.now c.args.vars.now c.args.events.now c.args.out.now c.run_stages.ensures c.in_ok-announced.was).vars
 
 pub loop-place-init : goal.loop-place-init
-loop-place-init c = record { going = going-none c.args.table.now c.args.marks.now c.args.vars.now c.args.events.now c.args.out.now c.run_stages.ensures c.in_ok-announced.was (omega arith) c.resting-run.ensures; taken = refl; stopped = refl }
+loop-place-init c = record { going = going-none c.args.table.now c.args.marks.now c.args.vars.now c.args.events.now c.args.out.now c.run_stages.ensures c.in_ok-announced.was (omega arith) c.load.ensures; taken = refl; stopped = refl }
 
 pub has_room-requires : goal.has_room-requires
 has_room-requires c = made-fits c.args.table.now c.args.marks.now c.args.vars.now c.args.events.now c.args.out.now c.run_stages.ensures c.in_ok-announced.was c.loop-place.invariant.going
@@ -93,3 +97,9 @@ returns c =
           rw (c.loop-place.invariant.taken, w.stopped-is)
           (list-short c.args.table.now c.args.marks.now c.args.vars.now c.args.events.now c.args.out.now c.run_stages.ensures c.in_ok-announced.was c.loop-place.invariant.going c.finish-done.ensures w.has_room.ensures w.if-not-has_room.true (omega (arith, w.loop-place-test.true, c.as_chunks.ensures.front_len)) w.at.ensures)
     ]
+
+pub finish-done-requires-clause-marks_len_bound : goal.finish-done-requires-clause-marks_len_bound
+finish-done-requires-clause-marks_len_bound c = ready-few (run-ready c.args.table.now c.args.marks.now c.args.vars.now c.args.events.now c.args.out.now c.run_stages.ensures c.in_ok-announced.was)
+
+pub finish-done-requires-clause-vars_len : goal.finish-done-requires-clause-vars_len
+finish-done-requires-clause-vars_len c = (run-ready c.args.table.now c.args.marks.now c.args.vars.now c.args.events.now c.args.out.now c.run_stages.ensures c.in_ok-announced.was).vars

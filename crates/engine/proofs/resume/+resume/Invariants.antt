@@ -6,6 +6,9 @@ use Rattle.engine.proofs.resume.+resume.Given as goal
 abbrev pub decreases-resume : goal.decreases-resume
 decreases-resume l = span_at l.at.table.now l.at.place * 4 + 2
 
+abbrev pub decreases-resume_part : goal.decreases-resume_part
+decreases-resume_part l = span_at l.at.table.now l.at.place * 4 + 3
+
 abbrev pub decreases-if_goes_on : goal.decreases-if_goes_on
 decreases-if_goes_on l = span_at l.right.table.now l.right.place * 4 + 3
 

@@ -12,14 +12,16 @@ returns-then-reach-clause-left c =
 
 pub returns-then-blocked-clause-left : goal.returns-then-blocked-clause-left
 returns-then-blocked-clause-left c =
-    let way = way-path c.args.program.table.now c.args.run.now.states _ _ _ c.requires.runs c.down-path.ensures.way in
-    let still = rw (c.end-part.ensures.table, c.end-part.ensures.place, c.down-path.ensures.table, c.turn_of-n.ensures) at (sym c.blocked.ensures ∙ c.if-blocked.true) in
+    let table = c.down.ensures.table ∙ c.new-path.ensures.table in
+    let way = way-path c.args.program.table.now c.args.run.now.states _ _ _ c.requires.runs (rw c.new-path.ensures.table at c.down.ensures.way) in
+    let still = rw (c.end-part.ensures.table, c.end-part.ensures.place, table, c.turn_of-n.ensures) at (sym c.blocked.ensures ∙ c.if-blocked.true) in
     rw c.requires.root (sym (onward-blocked _ _ _ _ (path-still c.args.program.table.now _ _ _ way still)))
 
 pub returns-clause-left : goal.returns-clause-left
 returns-clause-left c =
     let root : Spot c.args.program.table.now 0 = rw c.requires.root at c.args.program.stands in
-    let way = way-path c.args.program.table.now c.args.run.now.states _ _ _ c.requires.runs c.down-path.ensures.way in
-    let part = rw (c.end-part.ensures.table, c.end-part.ensures.place, c.down-path.ensures.table, c.turn_of-n.ensures) at c.resume-how.ensures in
-    let all = rw (c.down-path.ensures.table, c.turn_of-n.ensures) at c.climb.ensures in
+    let table = c.down.ensures.table ∙ c.new-path.ensures.table in
+    let way = way-path c.args.program.table.now c.args.run.now.states _ _ _ c.requires.runs (rw c.new-path.ensures.table at c.down.ensures.way) in
+    let part = rw (c.end-part.ensures.table, c.end-part.ensures.place, table, c.turn_of-n.ensures) at c.resume-how.ensures in
+    let all = rw (table, c.turn_of-n.ensures) at c.climb.ensures in
     rw c.requires.root (onward-climbs _ _ root _ _ (all _ _ way part) c.pending.ensures.event)

@@ -1,6 +1,6 @@
 -- The first i records have been heard.
 use Rattle.walks.specs.Listening.{HeardAmong}
-use Rattle.walks.proofs.listeners.Listeners.of_program.Given as goal
+use Rattle.walks.proofs.listeners.Listeners.listen.Given as goal
 
 abbrev pub invariant-loop-i : goal.invariant-loop-i
-invariant-loop-i l = HeardAmong l.table l.i l.listeners
+invariant-loop-i l = HeardAmong l.table l.i l.self
