@@ -159,6 +159,9 @@ pub both-span : {b m : List ℕ} {i : ℕ} {h : Head} {p q : Counted} → Part b
 both-span first other over = over.span ∙ rw (part-span first, other.table, other.marks)
 
 -- the other part of a sequence or a loop
+pub par-span : {h : Head} {o : Par} → h ≡ head.Par o → (m : List ℕ) (t : Tree) → other_span h m t ≡ rest_span m t
+par-span e m t = rw e
+
 pub whole-span : {h : Head} → (h ≡ head.Sequence) ⊎ (h ≡ head.Loop) → (m b : List ℕ) (i : ℕ) → Place b i → other_span h m (tree_of b i) ≡ span_at b i
 whole-span (inl e) m b i p = rw e (tree-span b i p)
 whole-span (inr e) m b i p = rw e (tree-span b i p)

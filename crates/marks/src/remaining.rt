@@ -79,17 +79,22 @@ fn write_rest(part: Counted<'_>, out: &mut [u8], at: usize)
     requires { record_bytes * (at + rest_span part.at.marks.now (tree part.at)) ≤ length out.old }
     ensures { out.new ≡ sets out.old (record_bytes * at) (rest_records part.entry.at.marks.now (tree part.entry.at)) }
 {
-    match rest_at(part.at, part.rests) {
-        Rest::Nothing => {}
-        Rest::Whole => write_whole(part.at, out, at),
-        Rest::Only(only) => write_rest(only, out, at),
-        Rest::Both(head, first, other) => {
-            write_head(out, at, head.number(), part.count());
-            write_rest(first, out, at + 1);
-            let behind = at + 1 + first.count();
-            match head {
-                Head::Par(_) => write_rest(other, out, behind),
-                Head::Sequence | Head::Loop => write_whole(other.at, out, behind),
+    let mut part = part;
+    let mut at = at;
+    // From each construct to the last part that remains of it: nothing is counted here.
+    loop {
+        match rest_at(part.at, part.rests) {
+            Rest::Nothing => return,
+            Rest::Whole => return write_whole(part.at, out, at),
+            Rest::Only(only) => part = only,
+            Rest::Both(head, first, other) => {
+                write_head(out, at, head.number(), part.count());
+                write_rest(first, out, at + 1);
+                at = at + 1 + first.count();
+                match head {
+                    Head::Par(_) => part = other,
+                    Head::Sequence | Head::Loop => return write_whole(other.at, out, at),
+                }
             }
         }
     }
