@@ -2,6 +2,7 @@
 #![tactic(auto)]
 
 mod buffer;
+mod filling;
 mod lines;
 
 pub use buffer::{LINE_BYTES, call_line, out_line, refusal_line};

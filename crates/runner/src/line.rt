@@ -38,27 +38,18 @@ pub fn of_refusal(refusal: Refusal) -> RefusalLine
 
 pub fn print_call(rt: &impl Print, line: CallLine) -> io::Result<()> {
     let mut buffer = [0; LINE_BYTES];
-    let length = lines::call_line(
-        &mut buffer,
-        line.event,
-        line.value,
-        line.steps,
-        line.emitted,
-        line.highest,
-        line.outputs,
-        line.finished,
-    );
+    let length = line.fill(&mut buffer);
     rt.write_all(&buffer[..length])
 }
 
 pub fn print_output(rt: &impl Print, line: OutLine) -> io::Result<()> {
     let mut buffer = [0; LINE_BYTES];
-    let length = lines::out_line(&mut buffer, line.0.name, line.0.value);
+    let length = line.fill(&mut buffer);
     rt.write_all(&buffer[..length])
 }
 
 pub fn print_refusal(rt: &impl Print, line: RefusalLine) -> io::Result<()> {
     let mut buffer = [0; LINE_BYTES];
-    let length = lines::refusal_line(&mut buffer, line.number, line.place);
+    let length = line.fill(&mut buffer);
     rt.write_all(&buffer[..length])
 }
