@@ -15,7 +15,7 @@ pub fn settle(at: Construct<'_>, memory: &mut Memory, out: &mut [u8])
     ensures { arrays_of memory.new out.new ≡ settle array_ops (tree at.entry) (arrays_of memory.old out.old) }
 {
     let mut last = at;
-    // From each construct to its last part: nothing is counted here.
+    // From each construct to its last part: no index is counted here.
     loop {
         last = match last.kind() {
             Kind::Act(act) => {

@@ -40,7 +40,7 @@ fn awake(at: Construct<'_>, source: Source, event: usize, states: &mut [u32; Lim
     }
 }
 
-// The same of a part: a record that waits for no event now takes no walk.
+// The same of a part: a nothing, an act, an emit or a break takes no walk, and no more does an await that is not waiting.
 #[cycle(awake)]
 #[tactic(auto, using(crate::proofs::Nodes::awake_node), unfolding(theory::specs::State::awake))]
 fn awake_part(at: Construct<'_>, source: Source, event: usize, states: &mut [u32; Limits::RECORDS])
